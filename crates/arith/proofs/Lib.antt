@@ -1,0 +1,4 @@
+pub mod IntLaws
+pub mod RingLaws
+pub mod Within
+pub mod Exact

@@ -1,0 +1,5 @@
+use Rattle.arith.proofs.RingLaws.{ring}
+use Rattle.arith.proofs.identities_stand.Needs as need
+
+pub returns : need.returns
+returns c = ring

@@ -1,0 +1,12 @@
+pub mod Distance
+pub mod Sums
+pub mod Maxes
+pub mod Corners
+pub mod Reducing
+pub mod Floors
+pub mod Bounding
+pub mod Moves
+pub mod Reordering
+pub mod Values
+pub mod Loops
+pub mod Existing

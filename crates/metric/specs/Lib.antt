@@ -1,0 +1,5 @@
+pub mod Exhaustive
+pub mod Reduced
+pub mod Bounds
+pub mod Orders
+pub mod Value
