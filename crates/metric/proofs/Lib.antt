@@ -10,3 +10,4 @@ pub mod Reordering
 pub mod Values
 pub mod Loops
 pub mod Existing
+pub mod Lawfulness
