@@ -15,7 +15,7 @@ use Rattle.constellation.specs.Meaning.{Meaning, Lawful, bit, origin}
 use Rattle.constellation.specs.declared.Point.{Point}
 use Rattle.constellation.proofs.Signs.{set-fits, set-same, set-other}
 use Rattle.metric.specs.Exhaustive.{Corner, allPoints, pointBit, someOf, seen}
-use Rattle.metric.specs.Reduced.{Lawful as Clear}
+use Rattle.metric.specs.Reduced.{Clear}
 
 -- the record that the reduced way asks for
 pub lawful-clear : (M : Meaning) → Lawful M → Clear M

@@ -26,6 +26,6 @@ halved S a (Some p) (Some q) = ap (λ (t : ℤ). Some (clipped (shrZ t (2 * S)))
 
 pub same-value : SameValue
 unfolding extrinsic reducedValue
-same-value C lawful S s A k =
+same-value C clear S s A k =
     halved S (A k) (best C S s A k true) (best C S s A k false)
-    ∙ ap₂ (λ (o z : Option ℤ). mapped (λ D. clipped (shrZ (D -ℤ pos 2 *ℤ (pos S *ℤ A k) +ℤ pos S) (2 * S))) (apart o z)) (reduces C lawful S s A k true) (reduces C lawful S s A k false)
+    ∙ ap₂ (λ (o z : Option ℤ). mapped (λ D. clipped (shrZ (D -ℤ pos 2 *ℤ (pos S *ℤ A k) +ℤ pos S) (2 * S))) (apart o z)) (reduces C clear S s A k true) (reduces C clear S s A k false)

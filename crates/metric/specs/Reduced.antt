@@ -67,8 +67,8 @@ unfoldable pub bestOver : Meaning → ℕ → Symbol → (ℕ → ℤ) → ℕ �
 bestOver C S sym A k b [] = None
 bestOver C S sym A k b (q ∷ qs) = greater (quadrantBest C S sym A k b q) (bestOver C S sym A k b qs)
 
--- what makes a constellation lawful
-pub record Lawful (C : Meaning) : Type 0 where
+-- what the reduced way asks of a constellation: two sign positions, and labels that are 0 there
+pub record Clear (C : Meaning) : Type 0 where
   pub u-low : 1 ≤ C .u
   pub u-high : C .u ≤ C .m
   pub v-low : 1 ≤ C .v
@@ -78,7 +78,7 @@ pub record Lawful (C : Meaning) : Type 0 where
 
 -- the theorem: the reduced way finds the exhaustive one's best, doubled
 abbrev pub Reduces : Type 0
-Reduces = (C : Meaning) → Lawful C → (S : ℕ) (sym : Symbol) (A : ℕ → ℤ) (k : ℕ) (b : Bool) →
+Reduces = (C : Meaning) → Clear C → (S : ℕ) (sym : Symbol) (A : ℕ → ℤ) (k : ℕ) (b : Bool) →
     mapped (λ d. pos 2 *ℤ d) (best C S sym A k b) ≡ bestOver C S sym A k b (C .points)
 
 -- the extrinsic value of bit k, from the doubled bests
@@ -87,4 +87,4 @@ reducedValue C S sym A k =
     mapped (λ D. clipped (shrZ (D -ℤ pos 2 *ℤ (pos S *ℤ A k) +ℤ pos S) (2 * S))) (apart (bestOver C S sym A k true (C .points)) (bestOver C S sym A k false (C .points)))
 
 abbrev pub SameValue : Type 0
-SameValue = (C : Meaning) → Lawful C → (S : ℕ) (sym : Symbol) (A : ℕ → ℤ) (k : ℕ) → extrinsic C S sym A k ≡ reducedValue C S sym A k
+SameValue = (C : Meaning) → Clear C → (S : ℕ) (sym : Symbol) (A : ℕ → ℤ) (k : ℕ) → extrinsic C S sym A k ≡ reducedValue C S sym A k
