@@ -11,3 +11,5 @@ pub mod Values
 pub mod Loops
 pub mod Existing
 pub mod Lawfulness
+pub mod ListSums
+pub mod ValueLaws

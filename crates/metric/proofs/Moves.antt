@@ -19,7 +19,7 @@ use Rattle.metric.specs.Exhaustive.{mapped, Complex, Symbol, Corner, pointBit,
 use Rattle.metric.specs.Reduced.{absolute}
 use Rattle.metric.specs.Bounds.{others, Independent, Bounded}
 use Rattle.arith.proofs.RingLaws.{ring}
-use Rattle.metric.proofs.Sums.{sum-same, sum-add}
+use Rattle.metric.proofs.Sums.{sum-zero, sum-same, sum-add}
 use Rattle.metric.proofs.Floors.{times-le, rounded-le}
 use Rattle.metric.proofs.Bounding.{Below, largest-below, bits-le, rise, part, sum-le}
 
@@ -85,11 +85,6 @@ rises m k A B = sym (sum-add m (λ j. cond (eqb j k) (pos 0) (part (A j -ℤ B j
     go true a b = refl
     go false a b = ap (λ (t : ℤ). part (a -ℤ b) +ℤ part t) (turn a b) ∙ parts (a -ℤ b)
 
-sum-zero : (n : ℕ) → sumTo n (λ j. pos 0) ≡ pos 0
-unfolding sumTo
-sum-zero zero = refl
-sum-zero (suc n) = ap (λ t. t +ℤ pos 0) (sum-zero n)
-
 others-least : (m k : ℕ) (A B : ℕ → ℤ) → pos 0 ≤ℤ others m k A B
 others-least m k A B = subst (λ (t : ℤ). t ≤ℤ others m k A B) (sum-zero m) (sum-le m (λ j. pos 0) (λ j. cond (eqb j k) (pos 0) (absolute (A j -ℤ B j))) (λ j. go (eqb j k) (A j -ℤ B j)))
   where
@@ -104,7 +99,7 @@ extrinsic-below C S s A B k pS k1 km = subst (λ (c : ℤ). Below c (extrinsic C
       (subst (λ (t : ℤ). pos 0 ≤ℤ t) (sym (rises (C .m) k A B)) (others-least (C .m) k A B))
       (best-below C S s A B k k1 km true) (best-below C S s B A k k1 km false))
 
-others-turn : (m k : ℕ) (A B : ℕ → ℤ) → others m k B A ≡ others m k A B
+pub others-turn : (m k : ℕ) (A B : ℕ → ℤ) → others m k B A ≡ others m k A B
 others-turn m k A B = sym (rises m k B A) ∙ swap (rise m k B A) (rise m k A B) ∙ rises m k A B
   where
     swap : (a b : ℤ) → a +ℤ b ≡ b +ℤ a

@@ -15,23 +15,12 @@ use Rattle.constellation.specs.Meaning.{Meaning}
 use Rattle.constellation.specs.declared.Point.{Point}
 use Rattle.metric.specs.Exhaustive.{mapped, Complex, Antenna, Symbol, Corner, corners, allPoints, signed, place, labelBit, pointBit, weighed, distance, prior, metric, sumTo, largest, best, apart, rounded, extrinsic}
 use Rattle.metric.specs.Orders.{Permutes, Relabelled, reordered, Moves}
-use Rattle.metric.proofs.Sums.{sum-same, sum-add, sum-single, eqb-same, eqb-apart}
-
-sum-zero : (n : ℕ) → sumTo n (λ j. pos 0) ≡ pos 0
-unfolding sumTo
-sum-zero zero = refl
-sum-zero (suc n) = ap (λ t. t +ℤ pos 0) (sum-zero n)
+use Rattle.metric.proofs.Sums.{sum-zero, sum-same, sum-add, sum-single, eqb-iff}
 
 pub sum-swap : (n m : ℕ) (f : ℕ → ℕ → ℤ) → sumTo n (λ i. sumTo m (f i)) ≡ sumTo m (λ j. sumTo n (λ i. f i j))
 unfolding sumTo
 sum-swap zero m f = sym (sum-zero m)
 sum-swap (suc n) m f = ap (λ t. t +ℤ sumTo m (f (suc n))) (sum-swap n m f) ∙ sym (sum-add m (λ j. sumTo n (λ i. f i j)) (f (suc n)))
-
--- two tests that say the same
-eqb-iff : (a b c d : ℕ) → (a ≡ b → c ≡ d) → (c ≡ d → a ≡ b) → eqb a b ≡ eqb c d
-eqb-iff a b c d h k = elim (eqb-tells a b)
-    [ inl p ↦ p .0 ∙ sym (ap (λ (i : ℕ). eqb i d) (h (p .1)) ∙ eqb-same d)
-    | inr p ↦ p .0 ∙ sym (eqb-apart c d (λ e. p .1 (k e))) ]
 
 pub sum-permuted : (m : ℕ) (t back : ℕ → ℕ) → Permutes m t back → (g : ℕ → ℤ) → sumTo m g ≡ sumTo m (λ j. g (t j))
 sum-permuted m t back perm g =

@@ -14,6 +14,11 @@ use Rattle.constellation.specs.declared.Point.{Point}
 use Rattle.metric.specs.Exhaustive.{Complex, Corner, labelBit, pointBit, prior, sumTo}
 use Rattle.metric.specs.Reduced.{labelPrior}
 
+pub sum-zero : (n : ℕ) → sumTo n (λ j. pos 0) ≡ pos 0
+unfolding sumTo
+sum-zero zero = refl
+sum-zero (suc n) = ap (λ t. t +ℤ pos 0) (sum-zero n)
+
 pub sum-same : (n : ℕ) (f g : ℕ → ℤ) → ((j : ℕ) → 1 ≤ j → j ≤ n → f j ≡ g j) → sumTo n f ≡ sumTo n g
 unfolding sumTo
 sum-same zero f g h = refl
@@ -40,6 +45,12 @@ eqb-same n = elim (eqb-tells n n) [ inl p ↦ p .0 | inr p ↦ absurd (p .1 refl
 
 pub eqb-apart : (m n : ℕ) → m ≢ n → eqb m n ≡ false
 eqb-apart m n h = elim (eqb-tells m n) [ inl p ↦ absurd (h (p .1)) | inr p ↦ p .0 ]
+
+-- two tests that say the same
+pub eqb-iff : (a b c d : ℕ) → (a ≡ b → c ≡ d) → (c ≡ d → a ≡ b) → eqb a b ≡ eqb c d
+eqb-iff a b c d h k = elim (eqb-tells a b)
+    [ inl p ↦ p .0 ∙ sym (ap (λ (i : ℕ). eqb i d) (h (p .1)) ∙ eqb-same d)
+    | inr p ↦ p .0 ∙ sym (eqb-apart c d (λ e. p .1 (k e))) ]
 
 sum-none : (n i : ℕ) (x : ℤ) → n < i → sumTo n (λ j. cond (eqb j i) x (pos 0)) ≡ pos 0
 unfolding sumTo
