@@ -1,28 +1,20 @@
 -- How far an extrinsic value moves with the a priori values.
-use Prim.Native.Nat.{ℕ, zero, suc, _+_, _*_, _^_, _≤_, _<_}
+use Prim.Native.Nat.{ℕ, zero, suc, _≤_}
 use native.Mathlib.Omega.{arith}
 use mathlib.Core.Path.{_≡_, refl, sym, ap, ap₂, _∙_, subst, subst₂}
-use mathlib.Core.Logic.{_⊎_, inl, inr, _≢_}
-use mathlib.Core.Bool.{Bool, true, false, cond, Bool·beq}
+use mathlib.Core.Bool.{Bool, true, false, cond}
 use mathlib.Core.List.{List, [], _∷_, map}
 use Rattle.std.specs.declared.option.Option.{Option}
 use Rattle.std.specs.declared.option.Option.the-variants.{Some, None}
 use lib.Dec.{T, eqb, eqb→eq}
-use lib.IntN.{ℤ, pos, negsuc, _+ℤ_, _-ℤ_, _*ℤ_, negℤ}
-use lib.Signed.{_≤ℤ_, _<ℤ_}
+use lib.IntN.{ℤ, pos, _+ℤ_, _-ℤ_}
+use lib.Signed.{_≤ℤ_}
 use borrow.Author.Differences.{up}
-use Rattle.std.specs.Numbers.{maxZ}
 use Rattle.std.specs.shelf.Lists.{kept-by}
 use Rattle.std.proofs.shelf.Signed.{ints, clamps}
-use Rattle.arith.specs.Ring.{Poly, var, con, _:+_, _:-_, _:*_, neg}
-use Rattle.constellation.specs.Meaning.{Meaning}
-use Rattle.metric.specs.Exhaustive.{Complex, Symbol, Corner, pointBit, allPoints, weighed, distance, place, prior, metric, sumTo, greater, largest, best, apart, rounded, extrinsic}
-use Rattle.metric.specs.Reduced.{absolute}
-use Rattle.metric.specs.Bounds.{others, Independent, Bounded}
-use Rattle.arith.proofs.RingLaws.{ring}
-use Rattle.metric.proofs.Sums.{sum-same, sum-add, sum-single, eqb-apart}
+use Rattle.metric.specs.Exhaustive.{sumTo, greater, largest}
+use Rattle.metric.proofs.Sums.{sum-add, sum-single}
 use Rattle.metric.proofs.Maxes.{largest-kept}
-use Rattle.metric.proofs.Floors.{times-le, rounded-le}
 
 pub sum-le : (n : ℕ) (f g : ℕ → ℤ) → ((j : ℕ) → f j ≤ℤ g j) → sumTo n f ≤ℤ sumTo n g
 unfolding sumTo

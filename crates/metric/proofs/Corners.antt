@@ -1,11 +1,10 @@
 -- The doubled metric of each of a quadrant point's four points.
-use Prim.Native.Nat.{ℕ}
-use mathlib.Core.Path.{_≡_, refl, ap, _∙_}
+use mathlib.Core.Path.{_≡_, refl}
 use mathlib.Core.Bool.{Bool, true, false, cond}
-use mathlib.Core.List.{List, [], _∷_}
-use lib.IntN.{ℤ, pos, negsuc, _+ℤ_, _-ℤ_, _*ℤ_, negℤ}
-use Rattle.arith.specs.Ring.{Poly, var, con, _:+_, _:-_, _:*_, neg, same}
-use Rattle.metric.specs.Exhaustive.{Complex, signed}
+use mathlib.Core.List.{[], _∷_}
+use lib.IntN.{ℤ, pos, _+ℤ_, _-ℤ_, _*ℤ_, negℤ}
+use Rattle.arith.specs.Ring.{Poly, var, con, _:+_, _:-_, _:*_, neg}
+use Rattle.metric.specs.Exhaustive.{signed}
 use Rattle.arith.proofs.RingLaws.{ring}
 use Rattle.metric.proofs.Distance.{Expanded}
 

@@ -1,8 +1,7 @@
 -- N by the sums Y, H and z, for any number of antennas.
-use Prim.Native.Nat.{ℕ}
 use mathlib.Core.Path.{_≡_, refl, ap, _∙_}
 use mathlib.Core.List.{List, [], _∷_}
-use lib.IntN.{ℤ, pos, negsuc, _+ℤ_, _-ℤ_, _*ℤ_, negℤ}
+use lib.IntN.{ℤ, pos, _+ℤ_, _-ℤ_, _*ℤ_}
 use Rattle.arith.specs.Ring.{Poly, var, con, _:+_, _:-_, _:*_, neg}
 use Rattle.metric.specs.Exhaustive.{Complex, Antenna, distance, square, minus, scaled, times}
 use Rattle.metric.specs.Reduced.{energyY, energyH, matched}

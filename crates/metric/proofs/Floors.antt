@@ -1,15 +1,14 @@
 -- Orders of products, quotients rounded down, and what is held within bounds.
-use Prim.Native.Nat.{ℕ, zero, suc, _+_, _*_, _/_, _%_, _≤_, _<_}
+use Prim.Native.Nat.{ℕ, _+_, _*_, _<_}
 use native.Mathlib.Omega.{arith}
 use native.Mathlib.Nat.{mul-le-mul-left, lt-of-mul-lt-mul-left}
-use mathlib.Core.Path.{_≡_, refl, sym, ap, ap₂, _∙_, subst}
-use mathlib.Core.List.{List, [], _∷_}
-use lib.IntN.{ℤ, pos, negsuc, _+ℤ_, _-ℤ_, _*ℤ_, negℤ}
+use mathlib.Core.Path.{_≡_, refl}
+use mathlib.Core.List.{[], _∷_}
+use lib.IntN.{ℤ, pos, negsuc, _+ℤ_, _*ℤ_}
 use lib.Signed.{_≤ℤ_, _<ℤ_, shrZ}
-use borrow.Author.Differences.{up, down, product-is, sum-is, le-out, at-most-in, below-in}
-use Rattle.std.specs.Numbers.{maxZ, minZ}
+use borrow.Author.Differences.{up, down, le-out, below-in}
 use Rattle.std.proofs.shelf.Signed.{ints, clamps}
-use Rattle.arith.specs.Ring.{Poly, var, con, _:+_, _:-_, _:*_, neg}
+use Rattle.arith.specs.Ring.{var, con, _:+_, _:*_}
 use Rattle.metric.specs.Exhaustive.{clipped, rounded}
 use Rattle.arith.proofs.RingLaws.{ring}
 

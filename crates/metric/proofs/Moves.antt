@@ -1,21 +1,21 @@
 -- The extrinsic value does not depend on its own bit's a priori value, and moves by at most the sum of the others' moves.
-use Prim.Native.Nat.{ℕ, zero, suc, _+_, _*_, _^_, _≤_, _<_}
+use Prim.Native.Nat.{ℕ, zero, suc, _^_, _≤_, _<_}
 use native.Mathlib.Omega.{arith}
-use mathlib.Core.Path.{_≡_, refl, sym, ap, ap₂, _∙_, subst, subst₂}
-use mathlib.Core.Logic.{_⊎_, inl, inr, _≢_}
+use mathlib.Core.Path.{_≡_, refl, sym, ap, _∙_, subst, subst₂}
+use mathlib.Core.Logic.{inl, inr, _≢_}
 use mathlib.Core.Bool.{Bool, true, false, cond, Bool·beq}
-use mathlib.Core.List.{List, [], _∷_, map}
+use mathlib.Core.List.{[], _∷_}
 use Rattle.std.specs.declared.option.Option.{Option}
 use Rattle.std.specs.declared.option.Option.the-variants.{Some, None}
 use lib.Dec.{T, eqb}
 use lib.Pow.{pow-pos}
 use lib.IntN.{ℤ, pos, negsuc, _+ℤ_, _-ℤ_, _*ℤ_, negℤ}
-use lib.Signed.{_≤ℤ_, _<ℤ_}
+use lib.Signed.{_≤ℤ_}
 use Rattle.std.proofs.shelf.Signed.{ints}
 use Rattle.std.proofs.shelf.Ways.{eqb-tells}
-use Rattle.arith.specs.Ring.{Poly, var, con, _:+_, _:-_, _:*_, neg}
+use Rattle.arith.specs.Ring.{var, con, _:+_, _:-_, _:*_}
 use Rattle.constellation.specs.Meaning.{Meaning}
-use Rattle.metric.specs.Exhaustive.{mapped, Complex, Symbol, Corner, pointBit, allPoints, weighed, distance, place, prior, metric, sumTo, largest, best, apart, rounded, extrinsic}
+use Rattle.metric.specs.Exhaustive.{mapped, Symbol, Corner, pointBit, allPoints, weighed, distance, place, prior, metric, best, apart, rounded, extrinsic}
 use Rattle.metric.specs.Reduced.{absolute}
 use Rattle.metric.specs.Bounds.{others, Independent, Bounded}
 use Rattle.arith.proofs.RingLaws.{ring}

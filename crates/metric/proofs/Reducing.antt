@@ -1,18 +1,17 @@
 -- The reduced way's best is the exhaustive one's, doubled.
-use Prim.Native.Nat.{ℕ, _≤_}
+use Prim.Native.Nat.{ℕ}
 use mathlib.Core.Path.{_≡_, refl, sym, ap, ap₂, _∙_}
-use mathlib.Core.Logic.{_≢_}
 use mathlib.Core.Bool.{Bool, true, false, cond, Bool·beq}
-use mathlib.Core.List.{List, [], _∷_, _++_, map}
+use mathlib.Core.List.{List, [], _∷_, map}
 use Rattle.std.specs.declared.option.Option.{Option}
 use Rattle.std.specs.declared.option.Option.the-variants.{Some, None}
 use lib.Dec.{eqb}
-use lib.IntN.{ℤ, pos, negsuc, _+ℤ_, _-ℤ_, _*ℤ_, negℤ}
+use lib.IntN.{ℤ, pos, _+ℤ_, _*ℤ_, negℤ}
 use Rattle.std.specs.shelf.Lists.{kept-by, All}
 use Rattle.constellation.specs.Meaning.{Meaning}
 use Rattle.constellation.specs.declared.Point.{Point}
-use Rattle.metric.specs.Exhaustive.{Complex, Antenna, Symbol, Corner, corners, allPoints, signed, place, labelBit, pointBit, weighed, distance, prior, metric, greater, largest, best}
-use Rattle.metric.specs.Reduced.{energyY, energyH, matched, labelPrior, base, turnV, turnU, choice, quadrantBest, bestOver, Clear, Reduces}
+use Rattle.metric.specs.Exhaustive.{Symbol, Corner, allPoints, signed, place, labelBit, pointBit, weighed, metric, greater, largest, best}
+use Rattle.metric.specs.Reduced.{energyY, energyH, matched, labelPrior, base, turnV, turnU, quadrantBest, bestOver, Clear, Reduces}
 use Rattle.metric.proofs.Distance.{distance-is}
 use Rattle.metric.proofs.Sums.{prior-is}
 use Rattle.metric.proofs.Maxes.{twice, twice-greater, greater-assoc, largest-kept, offer, choice-is}

@@ -1,19 +1,15 @@
 -- A sum in another order, and the detector with its bits in another order.
-use Prim.Native.Nat.{ℕ, zero, suc, _+_, _*_, _/_, _^_, _≤_, _<_}
-use native.Mathlib.Omega.{arith}
+use Prim.Native.Nat.{ℕ, zero, suc, _*_, _/_, _^_, _≤_}
 use mathlib.Core.Path.{_≡_, refl, sym, ap, ap₂, _∙_, subst}
-use mathlib.Core.Logic.{_⊎_, inl, inr}
 use mathlib.Core.Bool.{Bool, true, false, cond, Bool·beq}
 use mathlib.Core.List.{List, [], _∷_, map}
 use Rattle.std.specs.declared.option.Option.{Option}
-use Rattle.std.specs.declared.option.Option.the-variants.{Some, None}
 use lib.Dec.{T, eqb, eqb→eq}
-use lib.IntN.{ℤ, pos, negsuc, _+ℤ_, _-ℤ_, _*ℤ_, negℤ}
+use lib.IntN.{ℤ, pos, _+ℤ_, _-ℤ_, _*ℤ_, negℤ}
 use Rattle.std.specs.shelf.Lists.{Each, kept-by}
-use Rattle.std.proofs.shelf.Ways.{eqb-tells}
 use Rattle.constellation.specs.Meaning.{Meaning}
 use Rattle.constellation.specs.declared.Point.{Point}
-use Rattle.metric.specs.Exhaustive.{mapped, Complex, Antenna, Symbol, Corner, corners, allPoints, signed, place, labelBit, pointBit, weighed, distance, prior, metric, sumTo, largest, best, apart, rounded, extrinsic}
+use Rattle.metric.specs.Exhaustive.{mapped, Complex, Symbol, Corner, allPoints, signed, pointBit, distance, prior, metric, sumTo, largest, best, apart, rounded, extrinsic}
 use Rattle.metric.specs.Orders.{Permutes, Relabelled, reordered, Moves}
 use Rattle.metric.proofs.Sums.{sum-zero, sum-same, sum-add, sum-single, eqb-iff}
 

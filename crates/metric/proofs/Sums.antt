@@ -1,17 +1,15 @@
 -- Sums of a function over 1..n, and the a priori part of a point's metric.
-use Prim.Native.Nat.{ℕ, zero, suc, _+_, _≤_, _<_}
+use Prim.Native.Nat.{ℕ, zero, suc, _≤_, _<_}
 use native.Mathlib.Omega.{arith}
 use mathlib.Core.Path.{_≡_, refl, sym, ap, ap₂, _∙_, subst}
-use mathlib.Core.Logic.{_⊎_, inl, inr, _≢_}
+use mathlib.Core.Logic.{inl, inr, _≢_}
 use mathlib.Core.Bool.{Bool, true, false, cond}
-use mathlib.Core.List.{List, [], _∷_}
 use lib.Dec.{T, eqb, eqb→eq}
-use lib.IntN.{ℤ, pos, negsuc, _+ℤ_, _-ℤ_, _*ℤ_, negℤ}
+use lib.IntN.{ℤ, pos, _+ℤ_}
 use borrow.Author.Differences.{ints}
 use Rattle.std.proofs.shelf.Ways.{eqb-tells}
 use Rattle.constellation.specs.Meaning.{Meaning}
-use Rattle.constellation.specs.declared.Point.{Point}
-use Rattle.metric.specs.Exhaustive.{Complex, Corner, labelBit, pointBit, prior, sumTo}
+use Rattle.metric.specs.Exhaustive.{Corner, labelBit, pointBit, prior, sumTo}
 use Rattle.metric.specs.Reduced.{labelPrior}
 
 pub sum-zero : (n : ℕ) → sumTo n (λ j. pos 0) ≡ pos 0

@@ -1,15 +1,15 @@
 -- The laws of the values that leave the detector. All that looks into the definition of `extrinsicValue` stands here.
-use Prim.Native.Nat.{ℕ, zero, suc, _+_, _-_, _*_, _^_, _≤_, _<_}
+use Prim.Native.Nat.{ℕ, zero, suc, _-_, _*_, _^_, _≤_, _<_}
 use native.Mathlib.Omega.{arith}
-use mathlib.Core.Path.{_≡_, refl, sym, ap, ap₂, _∙_, subst}
-use mathlib.Core.Logic.{_⊎_, inl, inr, _≢_}
+use mathlib.Core.Path.{_≡_, refl, sym, ap, ap₂, _∙_}
+use mathlib.Core.Logic.{inl, inr, _≢_}
 use mathlib.Core.Bool.{true, false, cond}
 use mathlib.Core.List.{List, [], _∷_, map}
 use Rattle.std.specs.declared.option.Option.{Option}
 use Rattle.std.specs.declared.option.Option.the-variants.{Some, None}
 use lib.Dec.{eqb}
 use lib.IntN.{ℤ, pos, _+ℤ_, _-ℤ_, _*ℤ_, natAbs}
-use lib.ListN.{length, getD}
+use lib.ListN.{getD}
 use lib.Pow.{pow-pos}
 use lib.Signed.{ltZ, shrZ}
 use Rattle.std.specs.shelf.Lists.{Each}
@@ -17,15 +17,15 @@ use Rattle.std.proofs.shelf.Lists.{getD-map, getD-past}
 use Rattle.std.proofs.shelf.Signed.{ints, clamps}
 use Rattle.std.proofs.shelf.Tests.{cases-lt}
 use Rattle.constellation.specs.Meaning.{Meaning, Lawful}
-use Rattle.constellation.specs.Ordered.{position, permutes, relabel, shuffled}
+use Rattle.constellation.specs.Ordered.{position, relabel, shuffled}
 use Rattle.constellation.specs.declared.Point.{Point}
 use Rattle.constellation.proofs.OrderLaws.{Order, order-from, bit-moved}
 use Rattle.constellation.proofs.Reorder.{position-least, at-position}
 use Rattle.metric.specs.Exhaustive.{mapped, Symbol, atBit, best, apart, clipped, rounded, extrinsic}
 use Rattle.metric.specs.Bounds.{others}
 use Rattle.metric.specs.Orders.{Permutes, Relabelled}
-use Rattle.metric.specs.Value.{orZero, extrinsicValue, posteriorValue, hardValue}
-use Rattle.metric.specs.ValueLaws.{dist, away, permute, Exists, Within, Silent, Steady, Carries, Moved}
+use Rattle.metric.specs.Value.{orZero, extrinsicValue, posteriorValue}
+use Rattle.metric.specs.ValueLaws.{dist, away, permute, Exists, Within, Silent, Steady, Moved}
 use Rattle.metric.proofs.Bounding.{Below}
 use Rattle.metric.proofs.Existing.{answers}
 use Rattle.metric.proofs.Lawfulness.{lawful-seen}

@@ -1,16 +1,15 @@
 -- The reduced way's extrinsic value is the exhaustive one's.
 use Prim.Native.Nat.{ℕ, _*_}
-use mathlib.Core.Path.{_≡_, refl, sym, ap, ap₂, _∙_}
-use mathlib.Core.Bool.{Bool, true, false}
-use mathlib.Core.List.{List, [], _∷_}
+use mathlib.Core.Path.{_≡_, refl, ap, ap₂, _∙_}
+use mathlib.Core.Bool.{true, false}
+use mathlib.Core.List.{[], _∷_}
 use Rattle.std.specs.declared.option.Option.{Option}
 use Rattle.std.specs.declared.option.Option.the-variants.{Some, None}
-use lib.IntN.{ℤ, pos, _+ℤ_, _-ℤ_, _*ℤ_, negℤ}
+use lib.IntN.{ℤ, pos, _+ℤ_, _-ℤ_, _*ℤ_}
 use lib.Signed.{shrZ}
-use Rattle.arith.specs.Ring.{Poly, var, con, _:+_, _:-_, _:*_, neg}
-use Rattle.constellation.specs.Meaning.{Meaning}
-use Rattle.metric.specs.Exhaustive.{mapped, Symbol, best, apart, clipped, rounded, extrinsic}
-use Rattle.metric.specs.Reduced.{bestOver, reducedValue, SameValue}
+use Rattle.arith.specs.Ring.{var, con, _:+_, _:-_, _:*_}
+use Rattle.metric.specs.Exhaustive.{mapped, best, apart, clipped, rounded, extrinsic}
+use Rattle.metric.specs.Reduced.{reducedValue, SameValue}
 use Rattle.arith.proofs.RingLaws.{ring}
 use Rattle.metric.proofs.Reducing.{reduces}
 

@@ -1,5 +1,5 @@
 -- The laws of the values that leave the detector, in terms of lists of a priori values.
-use Prim.Native.Nat.{ℕ, _+_, _-_, _^_, _≤_, _<_}
+use Prim.Native.Nat.{ℕ, _+_, _-_, _≤_, _<_}
 use mathlib.Core.Path.{_≡_}
 use mathlib.Core.Logic.{_≢_}
 use mathlib.Core.Bool.{true, cond}
@@ -10,7 +10,7 @@ use lib.IntN.{ℤ, pos, _-ℤ_, natAbs}
 use lib.ListN.{length, getD}
 use Rattle.constellation.specs.Meaning.{Meaning, Lawful}
 use Rattle.constellation.specs.Ordered.{permutes, shuffled}
-use Rattle.metric.specs.Exhaustive.{Symbol, atBit, extrinsic}
+use Rattle.metric.specs.Exhaustive.{Symbol, extrinsic}
 use Rattle.metric.specs.Value.{extrinsicValue, posteriorValue, hardValue}
 
 -- how far two values are apart
