@@ -45,7 +45,7 @@ pub largest-below : {X : Type 0} (f g : X → ℤ) (t : X → Bool) (c : ℤ) �
 largest-below f g t c h [] = tt
 largest-below f g t c h (p ∷ ps) = subst₂ (Below c) (sym (largest-kept f t p ps)) (sym (largest-kept g t p ps))
     (greater-below c (cond (t p) (Some (f p)) None) (cond (t p) (Some (g p)) None) (largest (map f (kept-by t ps))) (largest (map g (kept-by t ps)))
-      (go (t p) (h p)) (largest-below f g t c h ps))
+    (go (t p) (h p)) (largest-below f g t c h ps))
   where
     go : (b : Bool) → (b ≡ true → f p ≤ℤ (g p +ℤ c)) → Below c (cond b (Some (f p)) None) (cond b (Some (g p)) None)
     go true h = h refl
@@ -77,15 +77,20 @@ bits-le m k bit A B k1 km = subst (λ (t : ℤ). sumTo m (λ j. cond (bit j) (A 
   where
     F : ℕ → ℤ
     F j = cond (bit j) (B j) (pos 0)
+
     R : ℕ → ℤ
     R j = cond (eqb j k) (pos 0) (part (A j -ℤ B j))
+
     K : ℕ → ℤ
     K j = cond (eqb j k) (cond (bit k) (A k -ℤ B k) (pos 0)) (pos 0)
+
     picks : (e : Bool) (x y : ℤ) → (e ≡ true → cond e x y ≡ x) × (e ≡ false → cond e x y ≡ y)
     picks true x y = ((λ _. refl), (λ p. absurd (subst (λ (t : Bool). T (cond t false true)) (sym p) tt)))
     picks false x y = ((λ p. absurd (subst T (sym p) tt)), (λ _. refl))
+
     at : (j : ℕ) → eqb j k ≡ true → j ≡ k
     at j e = eqb→eq j k (subst T (sym e) tt)
+
     each : (j : ℕ) → cond (bit j) (A j) (pos 0) ≤ℤ (F j +ℤ R j +ℤ K j)
     each j = summand (eqb j k) (bit j) (A j) (B j) (R j) (K j)
         (picks (eqb j k) (pos 0) (part (A j -ℤ B j)) .0)

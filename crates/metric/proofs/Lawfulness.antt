@@ -88,9 +88,9 @@ module _ (M : Meaning) (L : Lawful M) where
           (ap (λ z. Bool·beq z b) (cond-false _ _ _ (ne-eqb k (M .v) nv) ∙ cond-true _ _ _ (eq-eqb k (M .u) e)) ∙ beq-same b)
       | inr nu ↦
           let w = L .carried (only k b) (only-fits k b k1 km)
-            (only-other k (M .u) b km (L .u-most) (λ e. nu (sym e))) (only-other k (M .v) b km (L .v-most) (λ e. nv (sym e))) in
+          (only-other k (M .u) b km (L .u-most) (λ e. nu (sym e))) (only-other k (M .v) b km (L .v-most) (λ e. nv (sym e))) in
           some-corner (λ p. Bool·beq (pointBit M p k) b) false false (M .points) (w .0) (w .1)
-            (ap (λ z. Bool·beq z b) (cond-false _ _ _ (ne-eqb k (M .v) nv) ∙ cond-false _ _ _ (ne-eqb k (M .u) nu))
-            ∙ ap (λ z. Bool·beq (eqb (bit (M .m) k z) 1) b) (w .2) ∙ only-same k b)
+          (ap (λ z. Bool·beq z b) (cond-false _ _ _ (ne-eqb k (M .v) nv) ∙ cond-false _ _ _ (ne-eqb k (M .u) nu))
+          ∙ ap (λ z. Bool·beq (eqb (bit (M .m) k z) 1) b) (w .2) ∙ only-same k b)
     ]
   ]

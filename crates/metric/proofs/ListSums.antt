@@ -40,13 +40,15 @@ others-away (suc m) k (x ∷ xs) [] e f = absurd (omega arith)
 others-away (suc m) k (x ∷ xs) (y ∷ ys) e f =
     sum-first m (term k (x ∷ xs) (y ∷ ys))
     ∙ ap₂ _+ℤ_ (ap (λ b. cond b (pos 0) (absolute (x -ℤ y))) (eqb-iff 1 k k 1 (λ h. sym h) (λ h. sym h)) ∙ out (eqb k 1))
-        (sum-same m (λ j. term k (x ∷ xs) (y ∷ ys) (suc j)) (term (k - 1) xs ys) next ∙ others-away m (k - 1) xs ys (omega arith) (omega arith))
+    (sum-same m (λ j. term k (x ∷ xs) (y ∷ ys) (suc j)) (term (k - 1) xs ys) next ∙ others-away m (k - 1) xs ys (omega arith) (omega arith))
   where
     term : ℕ → List ℤ → List ℤ → ℕ → ℤ
     term k xs ys j = cond (eqb j k) (pos 0) (absolute (atBit xs j -ℤ atBit ys j))
+
     out : (b : Bool) → cond b (pos 0) (absolute (x -ℤ y)) ≡ pos (cond b 0 (dist x y))
     out true = refl
     out false = refl
+
     next : (j : ℕ) → 1 ≤ j → j ≤ m → term k (x ∷ xs) (y ∷ ys) (suc j) ≡ term (k - 1) xs ys j
     next zero h l = absurd (omega arith)
     next (suc i) h l = ap (λ b. cond b (pos 0) (absolute (getD xs i (pos 0) -ℤ getD ys i (pos 0)))) (eqb-iff (suc (suc i)) k (suc i) (k - 1) (λ h. omega arith) (λ h. omega arith))

@@ -36,9 +36,9 @@ module _ (C : Meaning) (clear-at : Clear C) (S : ℕ) (sym′ : Symbol) (A : ℕ
   unfolding metric base turnV turnU own
   metric-twice p clear =
       ap₂ (λ n a. pos 2 *ℤ (negℤ (pos (weighed sym′ (p .of)) *ℤ n) +ℤ pos S *ℤ a)) (distance-is (place p) (sym′ .antennas))
-        (prior-is C A p (clear-at .u-low) (clear-at .u-high) (clear-at .v-low) (clear-at .v-high) (clear-at .apart) (clear .0) (clear .1))
+      (prior-is C A p (clear-at .u-low) (clear-at .u-high) (clear-at .v-low) (clear-at .v-high) (clear-at .apart) (clear .0) (clear .1))
       ∙ doubled (p .left) (p .low) (pos (weighed sym′ (p .of))) (pos (p .of .x)) (pos (p .of .y)) (energyY (sym′ .antennas)) (energyH (sym′ .antennas))
-          (matched (sym′ .antennas) .re) (matched (sym′ .antennas) .im) (pos S) (labelPrior C A (p .of)) (A (C .v)) (A (C .u))
+      (matched (sym′ .antennas) .re) (matched (sym′ .antennas) .im) (pos S) (labelPrior C A (p .of)) (A (C .v)) (A (C .u))
 
   module _ (k : ℕ) (b : Bool) where
     -- the best of the points of a list
@@ -69,8 +69,8 @@ module _ (C : Meaning) (clear-at : Clear C) (S : ℕ) (sym′ : Symbol) (A : ℕ
         ∙ ap (greater (offered q false true)) (step (corner q true true) (allPoints qs) (clear .0))))
         ∙ group (offered q false false) (offered q true false) (offered q false true) (offered q true true) (twice (bestIn (allPoints qs)))
         ∙ ap₂ greater
-            (choice-is (eqb k (C .v)) (eqb k (C .u)) (labelBit (C .m) (q .label) k) b (base C S sym′ A q) (turnV C S sym′ A q) (turnU C S sym′ A q) own)
-            (over qs (clear .1))
+        (choice-is (eqb k (C .v)) (eqb k (C .u)) (labelBit (C .m) (q .label) k) b (base C S sym′ A q) (turnV C S sym′ A q) (turnU C S sym′ A q) own)
+        (over qs (clear .1))
 
 pub reduces : Reduces
 unfolding best bestIn twice

@@ -46,9 +46,10 @@ eqb-apart m n h = elim (eqb-tells m n) [ inl p ↦ absurd (h (p .1)) | inr p ↦
 
 -- two tests that say the same
 pub eqb-iff : (a b c d : ℕ) → (a ≡ b → c ≡ d) → (c ≡ d → a ≡ b) → eqb a b ≡ eqb c d
-eqb-iff a b c d h k = elim (eqb-tells a b)
-    [ inl p ↦ p .0 ∙ sym (ap (λ (i : ℕ). eqb i d) (h (p .1)) ∙ eqb-same d)
-    | inr p ↦ p .0 ∙ sym (eqb-apart c d (λ e. p .1 (k e))) ]
+eqb-iff a b c d h k = elim (eqb-tells a b) [
+  | inl p ↦ p .0 ∙ sym (ap (λ (i : ℕ). eqb i d) (h (p .1)) ∙ eqb-same d)
+  | inr p ↦ p .0 ∙ sym (eqb-apart c d (λ e. p .1 (k e)))
+]
 
 sum-none : (n i : ℕ) (x : ℤ) → n < i → sumTo n (λ j. cond (eqb j i) x (pos 0)) ≡ pos 0
 unfolding sumTo
@@ -58,12 +59,14 @@ sum-none (suc n) i x h = ap₂ _+ℤ_ (sum-none n i x (omega arith)) (cond-no (e
 pub sum-single : (n i : ℕ) (x : ℤ) → 1 ≤ i → i ≤ n → sumTo n (λ j. cond (eqb j i) x (pos 0)) ≡ x
 unfolding sumTo
 sum-single zero i x p q = absurd (omega arith)
-sum-single (suc n) i x p q = elim (eqb-tells (suc n) i)
-    [ inl t ↦ ap₂ _+ℤ_ (sum-none n i x (omega arith)) (cond-yes (eqb (suc n) i) x (pos 0) (t .0)) ∙ left-zero x
-    | inr t ↦ ap₂ _+ℤ_ (sum-single n i x p (omega arith)) (cond-no (eqb (suc n) i) x (t .0)) ∙ right-zero x ]
+sum-single (suc n) i x p q = elim (eqb-tells (suc n) i) [
+  | inl t ↦ ap₂ _+ℤ_ (sum-none n i x (omega arith)) (cond-yes (eqb (suc n) i) x (pos 0) (t .0)) ∙ left-zero x
+  | inr t ↦ ap₂ _+ℤ_ (sum-single n i x p (omega arith)) (cond-no (eqb (suc n) i) x (t .0)) ∙ right-zero x
+]
   where
     left-zero : (a : ℤ) → pos 0 +ℤ a ≡ a
     left-zero a = omega (arith, ints)
+
     right-zero : (a : ℤ) → a +ℤ pos 0 ≡ a
     right-zero a = omega (arith, ints)
 
@@ -80,16 +83,20 @@ prior-is C A p u1 um v1 vm uv lu lv =
     sum-same (C .m) (λ j. cond (pointBit C p j) (A j) (pos 0)) (λ j. L j +ℤ V j +ℤ U j) (λ j _ _. each j)
     ∙ sum-add (C .m) (λ j. L j +ℤ V j) U
     ∙ ap₂ _+ℤ_ (sum-add (C .m) L V ∙ ap (λ t. sumTo (C .m) L +ℤ t) (sum-single (C .m) (C .v) (cond (p .left) (A (C .v)) (pos 0)) v1 vm))
-        (sum-single (C .m) (C .u) (cond (p .low) (A (C .u)) (pos 0)) u1 um)
+    (sum-single (C .m) (C .u) (cond (p .low) (A (C .u)) (pos 0)) u1 um)
   where
     L : ℕ → ℤ
     L j = cond (labelBit (C .m) (p .of .label) j) (A j) (pos 0)
+
     V : ℕ → ℤ
     V j = cond (eqb j (C .v)) (cond (p .left) (A (C .v)) (pos 0)) (pos 0)
+
     U : ℕ → ℤ
     U j = cond (eqb j (C .u)) (cond (p .low) (A (C .u)) (pos 0)) (pos 0)
+
     same : (j i : ℕ) → eqb j i ≡ true → j ≡ i
     same j i e = eqb→eq j i (subst T (sym e) tt)
+
     each : (j : ℕ) → cond (pointBit C p j) (A j) (pos 0) ≡ L j +ℤ V j +ℤ U j
     each j = summand (eqb j (C .v)) (eqb j (C .u)) (labelBit (C .m) (p .of .label) j) (p .left) (p .low) (A j) (A (C .v)) (A (C .u))
         (λ e. (ap A (same j (C .v) e), ap (labelBit (C .m) (p .of .label)) (same j (C .v) e) ∙ lv, eqb-apart j (C .u) (λ f. uv (sym f ∙ same j (C .v) e))))

@@ -43,6 +43,7 @@ within M s sym zs k = go (apart (best M (2 ^ s) sym (atBit zs) k true) (best M (
   where
     clip : (z : ℤ) → natAbs (clipped z) ≤ 8191
     clip z = omega (arith, ints, clamps)
+
     go : (o : Option ℤ) → natAbs (orZero (mapped (λ D. rounded (2 ^ s) (D -ℤ pos (2 ^ s) *ℤ atBit zs k)) o)) ≤ 8191
     go None = omega arith
     go (Some d) = clip (shrZ (pos 2 *ℤ (d -ℤ pos (2 ^ s) *ℤ atBit zs k) +ℤ pos (2 ^ s)) (2 * 2 ^ s))
@@ -70,8 +71,8 @@ pub steady : Steady
 unfolding extrinsicValue
 steady M s sym xs ys k lx ly k1 km =
     near (extrinsic M (2 ^ s) sym (atBit xs) k) (extrinsic M (2 ^ s) sym (atBit ys) k) (others (M .m) k (atBit xs) (atBit ys)) (others (M .m) k (atBit ys) (atBit xs)) (away k xs ys)
-      (extrinsic-below M (2 ^ s) sym (atBit xs) (atBit ys) k (pow-pos s) k1 km) (extrinsic-below M (2 ^ s) sym (atBit ys) (atBit xs) k (pow-pos s) k1 km)
-      (others-away (M .m) k xs ys lx ly) (others-turn (M .m) k (atBit xs) (atBit ys))
+    (extrinsic-below M (2 ^ s) sym (atBit xs) (atBit ys) k (pow-pos s) k1 km) (extrinsic-below M (2 ^ s) sym (atBit ys) (atBit xs) k (pow-pos s) k1 km)
+    (others-away (M .m) k xs ys lx ly) (others-turn (M .m) k (atBit xs) (atBit ys))
 
 -- ---- another order of the bits
 module _ (M : Meaning) (L : Lawful M) (ps : List ℕ) (O : Order (M .m) ps) where
@@ -112,7 +113,7 @@ module _ (M : Meaning) (L : Lawful M) (ps : List ℕ) (O : Order (M .m) ps) wher
       let b = permuted .here j h k in
       ap (extrinsic (shuffled ps M) S s (atBit (permute ps zs))) (sym (b .2))
       ∙ moves M there back (map (relabel (M .m) ps) (M .points)) permuted (relabelled (M .points)) (L .u-least) (L .u-most) (L .v-least) (L .v-most)
-          S s (atBit zs) (atBit (permute ps zs)) (moved-bit zs) (back j) (b .0) (b .1)
+      S s (atBit zs) (atBit (permute ps zs)) (moved-bit zs) (back j) (b .0) (b .1)
 
 pub moved : Moved
 unfolding extrinsicValue back

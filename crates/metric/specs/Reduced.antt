@@ -64,14 +64,14 @@ turnU C S sym A q = pos 4096 *ℤ pos (weighed sym q) *ℤ pos (q .y) *ℤ match
 abbrev pub choice : (isV isU bit b : Bool) → (base tv tu own : ℤ) → Option ℤ
 choice isV isU bit b base tv tu own =
     cond isV (Some (base +ℤ signed b tv +ℤ absolute tu +ℤ own))
-      (cond isU (Some (base +ℤ absolute tv +ℤ signed b tu +ℤ own))
-        (cond (Bool·beq bit b) (Some (base +ℤ absolute tv +ℤ absolute tu +ℤ own)) None))
+    (cond isU (Some (base +ℤ absolute tv +ℤ signed b tu +ℤ own))
+    (cond (Bool·beq bit b) (Some (base +ℤ absolute tv +ℤ absolute tu +ℤ own)) None))
 
 -- the same, of a quadrant point
 unfoldable pub quadrantBest : Meaning → ℕ → Symbol → (ℕ → ℤ) → ℕ → Bool → Point → Option ℤ
 quadrantBest C S sym A k b q =
     choice (eqb k (C .v)) (eqb k (C .u)) (labelBit (C .m) (q .label) k) b
-      (base C S sym A q) (turnV C S sym A q) (turnU C S sym A q) (pos S *ℤ A (C .u) +ℤ pos S *ℤ A (C .v))
+    (base C S sym A q) (turnV C S sym A q) (turnU C S sym A q) (pos S *ℤ A (C .u) +ℤ pos S *ℤ A (C .v))
 
 -- the best over a list of quadrant points
 unfoldable pub bestOver : Meaning → ℕ → Symbol → (ℕ → ℤ) → ℕ → Bool → List Point → Option ℤ
