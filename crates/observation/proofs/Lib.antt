@@ -1,0 +1,2 @@
+pub mod Energies
+pub mod Antennas
