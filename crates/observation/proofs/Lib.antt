@@ -1,2 +1,3 @@
 pub mod Energies
 pub mod Antennas
+pub mod Sizes
