@@ -1,6 +1,3 @@
-use mathlib.Core.Path.{_≡_}
-use Prim.Native.Nat.{_+_, _%_}
-use lib.ListN.{length}
 use Rattle.rings.proofs.LayerLaws.{copy-within, copy-narrow, label-room}
 use Rattle.rings.proofs.layer.nth_copied.Needs as need
 
@@ -19,9 +16,8 @@ lift-requires g c κs =
     let L = g .C·Constellation·met .lawful below in
     let i = c .args .i in
     let n = copy-narrow plan M L (c .pre .fits) i (c .pre .within) in
-    let G = g .C·Constellation·met .good below (i % length (M .points) + 1) in
     record {
       narrow = c .bits .ensures .small;
-      small = rw (c .copy .ensures, c .point .ensures, c .size-size .ensures) (n .1, (n .2, G .e-most));
+      small = rw (c .copy .ensures, c .point .ensures, c .size-size .ensures) (n .1, (n .2, g .C·Constellation·met .good below _ .e-most));
       fits = rw (c .bits .ensures .value, c .copy .ensures, c .point .ensures, c .size-size .ensures) (label-room plan M L (c .pre .fits) i (c .pre .within) _);
     }
