@@ -2,6 +2,7 @@
 
 mod list;
 
+ghost use Rattle.order.specs.Once.{TestStands};
 ghost use Rattle.order.specs.OrderMade.{Ordering, orderMeaning};
 use crate::list::find;
 use crate::list::is_order;
@@ -73,4 +74,11 @@ pub impl<C: Constellation> Constellation for Order<C> as OrderConstellation {
             p
         }
     }
+}
+
+/// The test of a bit order passes exactly where the list is each of 1 to m once.
+pub fn test_stands() -> u8
+    ensures { λ _. ⌜ TestStands ⌝ }
+{
+    0
 }
