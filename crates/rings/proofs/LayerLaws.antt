@@ -20,7 +20,7 @@ use Rattle.constellation.proofs.Labels.{bit-above, bit-kept, label-fits}
 use Rattle.constellation.proofs.Points.{good-nth}
 use Rattle.constellation.proofs.Tested.{every-from}
 use Rattle.rings.specs.Copies.{nothing, copies, bits}
-use Rattle.rings.specs.Layered.{copied, spread, stacked, room, layered}
+use Rattle.rings.specs.Layered.{copied, spread, copiedAt, stacked, room, layered}
 use Rattle.rings.specs.declared.plan.Copied.{Copied}
 use Rattle.rings.specs.declared.plan.Plan.{Plan}
 use Rattle.rings.specs.declared.plan.Plan.the-variants.{TwoRings, FourRings, TwoRatios, FourRatios}
@@ -161,9 +161,8 @@ module _ (plan : Plan) (M : Meaning) (L : Lawful M) (t : room plan M ≡ true) w
   pub layered-size : length (layered plan M .points) ≡ length (M .points) * length (copies plan)
   layered-size = ap length layered-points ∙ length-spread (bits plan) (copies plan) (fair plan) M L
 
-  -- the index that the code computes
-  pub index-within : (number i : ℕ) → place number (length (M .points) * length (copies plan)) ≡ i → i < length (M .points) * length (copies plan)
-  index-within number i e = omega (arith, some-spread (bits plan) (copies plan) (fair plan) M L)
+  pub layered-some : 1 ≤ length (M .points) * length (copies plan)
+  layered-some = some-spread (bits plan) (copies plan) (fair plan) M L
 
   module _ (i : ℕ) (within : i < length (M .points) * length (copies plan)) where
     pub copy-within : i / length (M .points) < length (copies plan)
@@ -178,7 +177,7 @@ module _ (plan : Plan) (M : Meaning) (L : Lawful M) (t : room plan M ≡ true) w
         let top : 2 ^ (M .m + bits plan) ≤ 2 ^ 8 = pow-mono narrow in
         omega (arith, label-fits (M .m) (bits plan) (nth (M .points) n .label) (getD (copies plan) (i / length (M .points)) nothing .code) (good-nth M L n .fits) (copy-narrow .0))
 
-    pub layered-at : (number : ℕ) → place number (length (M .points) * length (copies plan)) ≡ i → nth (layered plan M .points) number ≡ copied (bits plan) (getD (copies plan) (i / length (M .points)) nothing) (nth (M .points) (i % length (M .points) + 1))
+    pub layered-at : (number : ℕ) → place number (length (M .points) * length (copies plan)) ≡ i → nth (layered plan M .points) number ≡ copiedAt plan (M .points) i
     layered-at number e =
         let size : ℕ = length (M .points) in
         let all : List Point = spread (bits plan) (copies plan) (M .points) in

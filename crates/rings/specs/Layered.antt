@@ -1,13 +1,13 @@
 -- A constellation that has the points of another several times, each time at another scale and with a code put after the label.
 use mathlib.Core.Bool.{Bool, cond, _&&_}
 use mathlib.Core.List.{List, map}
-use Prim.Native.Nat.{ℕ, _+_, _*_, _/_, _^_, min}
+use Prim.Native.Nat.{ℕ, _+_, _*_, _/_, _%_, _^_, min}
 use lib.Dec.{leb}
-use lib.ListN.{length}
+use lib.ListN.{length, getD}
 use Rattle.std.specs.shelf.Lists.{joined}
-use Rattle.constellation.specs.Meaning.{Meaning}
+use Rattle.constellation.specs.Meaning.{Meaning, nth}
 use Rattle.constellation.specs.declared.Point.{Point}
-use Rattle.rings.specs.Copies.{copies, bits}
+use Rattle.rings.specs.Copies.{nothing, copies, bits}
 use Rattle.rings.specs.declared.plan.Copied.{Copied}
 use Rattle.rings.specs.declared.plan.Plan.{Plan}
 
@@ -22,6 +22,10 @@ copied k t p = record { x = scaled (t .scale) (p .x); y = scaled (t .scale) (p .
 -- for each copy, every point below in order
 abbrev pub spread : ℕ → List Copied → List Point → List Point
 spread k ts ps = joined (λ t. map (copied k t) ps) ts
+
+-- the point of index i among them
+abbrev pub copiedAt : Plan → List Point → ℕ → Point
+copiedAt plan ps i = copied (bits plan) (getD (copies plan) (i / length ps) nothing) (nth ps (i % length ps + 1))
 
 -- the layer's meaning over what is below
 abbrev pub stacked : Plan → Meaning → Meaning

@@ -29,11 +29,6 @@ ratioPlan n = cond (eqb n 2) (Some TwoRatios) (cond (eqb n 4) (Some FourRatios) 
 abbrev pub refused : Cause → Refusal
 refused cause = record { cause = cause; place = 0 }
 
--- which plan is picked
-abbrev pub Picked : Option Plan → Result Plan Refusal → Type 0
-Picked None r = r ≡ Err (refused Size)
-Picked (Some plan) r = r ≡ Ok plan
-
 -- what a layer means, over what is below
 abbrev pub layerMeaning : {C : Type 0} → (C → Meaning) → Layer C → Meaning
 layerMeaning meaning s = layered (s .plan) (meaning (s .below))

@@ -5,8 +5,9 @@ ghost use mathlib.Core.Bool.{true};
 ghost use Prim.Native.Nat.{_+_, _*_, _^_, _<_, _≤_};
 ghost use lib.ListN.{length};
 ghost use Rattle.std.specs.declared.option.Option.the-variants.{Some};
-ghost use Rattle.rings.specs.Copies.{bits as bitsOf};
-ghost use Rattle.rings.specs.Layered.{scaled, copied, room};
+ghost use Rattle.constellation.specs.Meaning.{place};
+ghost use Rattle.rings.specs.Copies.{copies, bits as bitsOf};
+ghost use Rattle.rings.specs.Layered.{scaled, copied, copiedAt, room};
 ghost use Rattle.rings.specs.Made.{Answered, layerMeaning};
 use crate::plan::Copied;
 use crate::plan::Plan;
@@ -49,6 +50,25 @@ fn fits<C: Constellation>(below: &C, plan: Plan) -> bool
     ensures { λ r. ⌜ r ≡ room plan (C·Constellation .meaning (now (below .entry))) ⌝ }
 {
     below.m() + plan.bits() <= 8 && (below.size() as usize) * plan.copies() <= 64
+}
+
+// The index of a number, counted from 1, among `size` points.
+fn index(number: usize, size: usize) -> usize
+    requires { ⌜ 1 ≤ size ⌝ }
+    ensures value { λ r. ⌜ r ≡ place number size ⌝ }
+    ensures within { λ r. ⌜ r < size ⌝ }
+{
+    number.saturating_sub(1).min(size - 1)
+}
+
+// The point of index i: every point below in the first copy, then in the next.
+fn nth_copied<C: Constellation>(below: &C, plan: Plan, i: usize) -> Point
+    requires fits { ⌜ room plan (C·Constellation .meaning (now below)) ≡ true ⌝ }
+    requires within { ⌜ i < length (C·Constellation .meaning (now below) .points) * length (copies plan) ⌝ }
+    ensures { λ r. ⌜ r ≡ copiedAt plan (C·Constellation .meaning (now (below .entry)) .points) i ⌝ }
+{
+    let size = below.size() as usize;
+    lift(plan.bits(), plan.copy(i / size), below.point(i % size + 1))
 }
 
 impl<C: Constellation + Drop> Layer<C> {
@@ -94,12 +114,7 @@ pub impl<C: Constellation> Constellation for Layer<C> as LayerConstellation {
         if !fits(&self.below, self.plan) {
             return self.below.point(number);
         }
-        let size = self.below.size() as usize;
-        let i = number.saturating_sub(1).min(size * self.plan.copies() - 1);
-        lift(
-            self.plan.bits(),
-            self.plan.copy(i / size),
-            self.below.point(i % size + 1),
-        )
+        let all = (self.below.size() as usize) * self.plan.copies();
+        nth_copied(&self.below, self.plan, index(number, all))
     }
 }

@@ -5,9 +5,7 @@ ghost use Prim.Native.Nat.{_+_, _*_, _%_, _^_, _<_, _≤_};
 ghost use lib.ListN.{length, getD};
 ghost use Rattle.constellation.specs.Gray.{gray as grayOf};
 ghost use Rattle.rings.specs.Copies.{copies as copiesOf, bits as bitsOf, ring as ringOf, nothing};
-ghost use Rattle.rings.specs.Made.{Picked, ringPlan, ratioPlan};
-use refusal::Cause;
-use refusal::Refusal;
+ghost use Rattle.rings.specs.Made.{ringPlan, ratioPlan};
 
 /// One copy of the points below.
 #[derive(Clone, Copy)]
@@ -60,24 +58,24 @@ fn ratio(n: u8, shifted: u8, scale: u32) -> Copied
 
 impl Plan {
     /// The layer of a number of rings.
-    pub fn rings(number: u32) -> Result<Plan, Refusal>
-        ensures { λ r. ⌜ Picked (ringPlan number) r ⌝ }
+    pub fn rings(number: u32) -> Option<Plan>
+        ensures { λ r. ⌜ r ≡ ringPlan number ⌝ }
     {
         match number {
-            2 => Ok(Plan::TwoRings),
-            4 => Ok(Plan::FourRings),
-            _ => Err(Cause::Size.at(0)),
+            2 => Some(Plan::TwoRings),
+            4 => Some(Plan::FourRings),
+            _ => None,
         }
     }
 
     /// The layer of a number of ratios.
-    pub fn ratios(number: u32) -> Result<Plan, Refusal>
-        ensures { λ r. ⌜ Picked (ratioPlan number) r ⌝ }
+    pub fn ratios(number: u32) -> Option<Plan>
+        ensures { λ r. ⌜ r ≡ ratioPlan number ⌝ }
     {
         match number {
-            2 => Ok(Plan::TwoRatios),
-            4 => Ok(Plan::FourRatios),
-            _ => Err(Cause::Size.at(0)),
+            2 => Some(Plan::TwoRatios),
+            4 => Some(Plan::FourRatios),
+            _ => None,
         }
     }
 

@@ -6,6 +6,7 @@ use crate::layer::LayerConstellation;
 use crate::plan::Plan;
 use constellation::Constellation;
 use constellation::Point;
+use refusal::Cause;
 use refusal::Refusal;
 
 /// A constellation at the ratios of 2 or 4 rings to one another.
@@ -19,7 +20,7 @@ impl<C: Constellation + Drop> Ratios<C> {
     pub fn new(below: C, ratios: u32) -> Result<Ratios<C>, Refusal>
         ensures { λ r. ⌜ Answered (ratiosMeaning (C·Constellation .meaning)) (C·Constellation .meaning below) (ratioPlan ratios) r ⌝ }
     {
-        let plan = Plan::ratios(ratios)?;
+        let plan = Plan::ratios(ratios).ok_or(Cause::Size.at(0))?;
         let layer = Layer::new(below, plan)?;
         Ok(Ratios { layer })
     }

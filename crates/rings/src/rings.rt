@@ -6,6 +6,7 @@ use crate::layer::LayerConstellation;
 use crate::plan::Plan;
 use constellation::Constellation;
 use constellation::Point;
+use refusal::Cause;
 use refusal::Refusal;
 
 /// A constellation on 2 or 4 rings.
@@ -19,7 +20,7 @@ impl<C: Constellation + Drop> Rings<C> {
     pub fn new(below: C, rings: u32) -> Result<Rings<C>, Refusal>
         ensures { λ r. ⌜ Answered (ringsMeaning (C·Constellation .meaning)) (C·Constellation .meaning below) (ringPlan rings) r ⌝ }
     {
-        let plan = Plan::rings(rings)?;
+        let plan = Plan::rings(rings).ok_or(Cause::Size.at(0))?;
         let layer = Layer::new(below, plan)?;
         Ok(Rings { layer })
     }
