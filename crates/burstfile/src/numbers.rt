@@ -11,6 +11,9 @@ ghost use Rattle.burstfile.specs.Values.{priorsFault};
 use refusal::Cause;
 use refusal::Refusal;
 
+/// The largest size of an a priori value.
+const LARGEST: u16 = 8191;
+
 /// The number that the bytes begin with.
 pub fn value(bytes: &[u8]) -> i16
     requires { ⌜ 2 ≤ length (now bytes) ⌝ }
@@ -57,7 +60,7 @@ pub fn check_priors(priors: &[u8]) -> Result<(), Refusal>
     ensures { λ r. ⌜ Cases r (λ _. priorsFault 1 (signedsOf (now (priors .entry))) ≡ None) (λ e. priorsFault 1 (signedsOf (now (priors .entry))) ≡ Some e) ⌝ }
 {
     for k in 0..priors.len() / 2 {
-        if value_at(priors, k).unsigned_abs() > 8191 {
+        if value_at(priors, k).unsigned_abs() > LARGEST {
             return Err(Cause::Range.at(k + 1));
         }
     }

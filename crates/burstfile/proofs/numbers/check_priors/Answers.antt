@@ -8,8 +8,8 @@ use Rattle.burstfile.specs.Reading.{signedsOf}
 use Rattle.burstfile.proofs.Walks.{halves, prior-passed, prior-refused, priors-passed}
 use Rattle.burstfile.proofs.numbers.check_priors.Needs as need
 
-pub returns-then-unsigned-abs-gt8191 : need.returns-then-unsigned-abs-gt8191
-returns-then-unsigned-abs-gt8191 c =
+pub returns-then-unsigned-abs-gt-LARGEST : need.returns-then-unsigned-abs-gt-LARGEST
+returns-then-unsigned-abs-gt-LARGEST c =
     let bs = c .args .priors .now in
     let lt : c .loop-k .k < length (signedsOf bs) = omega (arith, halves bs .1) in
     let gt : 8191 < natAbs (c .value-at .result) = search needs in
