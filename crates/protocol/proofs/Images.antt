@@ -37,7 +37,6 @@ module _ {X Y : Type 0} (f : X → Y) where
   place-image made (Ok a) o p = ap (λ xs. record { meaning = o .meaning; number = o .number; shift = o .shift; symbols = xs; reference = placedReference (o .reference) p }) (placed-image made (o .symbols) (o .reference) p)
   place-image made (Err e) o p = refl
 
-
   image-symbols : (g : Placed Y → Placed Y) (h : Placed X → Placed X) → ((y : Placed X) → g (placedImage f y) ≡ placedImage f (h y)) →
       (i : ℕ) (ys : List (Placed X)) → atSymbol g i (map (placedImage f) ys) ≡ map (placedImage f) (atSymbol h i ys)
   image-symbols g h e i [] = refl
