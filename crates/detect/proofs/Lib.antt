@@ -1,0 +1,4 @@
+pub mod Topping
+pub mod Linking
+pub mod Coding
+pub mod Gathering

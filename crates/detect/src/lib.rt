@@ -1,0 +1,7 @@
+//! Soft detection of one symbol: extrinsic values from what its record keeps, by a single pass over the quadrant points.
+
+pub mod chart;
+mod pass;
+mod submetric;
+pub mod value;
+mod weights;
