@@ -1,0 +1,2 @@
+pub mod OrderMade
+pub mod Once

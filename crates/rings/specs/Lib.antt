@@ -1,0 +1,3 @@
+pub mod Copies
+pub mod Layered
+pub mod Made
