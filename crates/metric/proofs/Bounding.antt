@@ -1,28 +1,20 @@
 -- How far an extrinsic value moves with the a priori values.
-use Prim.Native.Nat.{ℕ, zero, suc, _+_, _*_, _^_, _≤_, _<_}
+use Prim.Native.Nat.{ℕ, zero, suc, _≤_}
 use native.Mathlib.Omega.{arith}
 use mathlib.Core.Path.{_≡_, refl, sym, ap, ap₂, _∙_, subst, subst₂}
-use mathlib.Core.Logic.{_⊎_, inl, inr, _≢_}
-use mathlib.Core.Bool.{Bool, true, false, cond, Bool·beq}
+use mathlib.Core.Bool.{Bool, true, false, cond}
 use mathlib.Core.List.{List, [], _∷_, map}
 use Rattle.std.specs.declared.option.Option.{Option}
 use Rattle.std.specs.declared.option.Option.the-variants.{Some, None}
 use lib.Dec.{T, eqb, eqb→eq}
-use lib.IntN.{ℤ, pos, negsuc, _+ℤ_, _-ℤ_, _*ℤ_, negℤ}
-use lib.Signed.{_≤ℤ_, _<ℤ_}
+use lib.IntN.{ℤ, pos, _+ℤ_, _-ℤ_}
+use lib.Signed.{_≤ℤ_}
 use borrow.Author.Differences.{up}
-use Rattle.std.specs.Numbers.{maxZ}
 use Rattle.std.specs.shelf.Lists.{kept-by}
 use Rattle.std.proofs.shelf.Signed.{ints, clamps}
-use Rattle.arith.specs.Ring.{Poly, var, con, _:+_, _:-_, _:*_, neg}
-use Rattle.constellation.specs.Meaning.{Meaning}
-use Rattle.metric.specs.Exhaustive.{Complex, Symbol, Corner, pointBit, allPoints, weighed, distance, place, prior, metric, sumTo, greater, largest, best, apart, rounded, extrinsic}
-use Rattle.metric.specs.Reduced.{absolute}
-use Rattle.metric.specs.Bounds.{others, Independent, Bounded}
-use Rattle.arith.proofs.RingLaws.{ring}
-use Rattle.metric.proofs.Sums.{sum-same, sum-add, sum-single, eqb-apart}
+use Rattle.metric.specs.Exhaustive.{sumTo, greater, largest}
+use Rattle.metric.proofs.Sums.{sum-add, sum-single}
 use Rattle.metric.proofs.Maxes.{largest-kept}
-use Rattle.metric.proofs.Floors.{times-le, rounded-le}
 
 pub sum-le : (n : ℕ) (f g : ℕ → ℤ) → ((j : ℕ) → f j ≤ℤ g j) → sumTo n f ≤ℤ sumTo n g
 unfolding sumTo
@@ -53,7 +45,7 @@ pub largest-below : {X : Type 0} (f g : X → ℤ) (t : X → Bool) (c : ℤ) �
 largest-below f g t c h [] = tt
 largest-below f g t c h (p ∷ ps) = subst₂ (Below c) (sym (largest-kept f t p ps)) (sym (largest-kept g t p ps))
     (greater-below c (cond (t p) (Some (f p)) None) (cond (t p) (Some (g p)) None) (largest (map f (kept-by t ps))) (largest (map g (kept-by t ps)))
-      (go (t p) (h p)) (largest-below f g t c h ps))
+    (go (t p) (h p)) (largest-below f g t c h ps))
   where
     go : (b : Bool) → (b ≡ true → f p ≤ℤ (g p +ℤ c)) → Below c (cond b (Some (f p)) None) (cond b (Some (g p)) None)
     go true h = h refl
@@ -85,15 +77,20 @@ bits-le m k bit A B k1 km = subst (λ (t : ℤ). sumTo m (λ j. cond (bit j) (A 
   where
     F : ℕ → ℤ
     F j = cond (bit j) (B j) (pos 0)
+
     R : ℕ → ℤ
     R j = cond (eqb j k) (pos 0) (part (A j -ℤ B j))
+
     K : ℕ → ℤ
     K j = cond (eqb j k) (cond (bit k) (A k -ℤ B k) (pos 0)) (pos 0)
+
     picks : (e : Bool) (x y : ℤ) → (e ≡ true → cond e x y ≡ x) × (e ≡ false → cond e x y ≡ y)
     picks true x y = ((λ _. refl), (λ p. absurd (subst (λ (t : Bool). T (cond t false true)) (sym p) tt)))
     picks false x y = ((λ p. absurd (subst T (sym p) tt)), (λ _. refl))
+
     at : (j : ℕ) → eqb j k ≡ true → j ≡ k
     at j e = eqb→eq j k (subst T (sym e) tt)
+
     each : (j : ℕ) → cond (bit j) (A j) (pos 0) ≤ℤ (F j +ℤ R j +ℤ K j)
     each j = summand (eqb j k) (bit j) (A j) (B j) (R j) (K j)
         (picks (eqb j k) (pos 0) (part (A j -ℤ B j)) .0)

@@ -1,8 +1,7 @@
 -- N by the sums Y, H and z, for any number of antennas.
-use Prim.Native.Nat.{ℕ}
 use mathlib.Core.Path.{_≡_, refl, ap, _∙_}
 use mathlib.Core.List.{List, [], _∷_}
-use lib.IntN.{ℤ, pos, negsuc, _+ℤ_, _-ℤ_, _*ℤ_, negℤ}
+use lib.IntN.{ℤ, pos, _+ℤ_, _-ℤ_, _*ℤ_}
 use Rattle.arith.specs.Ring.{Poly, var, con, _:+_, _:-_, _:*_, neg}
 use Rattle.metric.specs.Exhaustive.{Complex, Antenna, distance, square, minus, scaled, times}
 use Rattle.metric.specs.Reduced.{energyY, energyH, matched}
@@ -17,37 +16,50 @@ distance-is c [] = ring (c .re ∷ c .im ∷ []) (con (pos 0)) (con (pos 1048576
   where
     x : Poly
     x = var 0
+
     w : Poly
     w = var 1
 distance-is c (a ∷ l) =
     ap (λ t. square (minus (scaled (pos 1024) (a .received)) (times c (a .reference))) +ℤ t) (distance-is c l)
     ∙ ring (c .re ∷ c .im ∷ a .received .re ∷ a .received .im ∷ a .reference .re ∷ a .reference .im ∷ energyY l ∷ energyH l ∷ matched l .re ∷ matched l .im ∷ [])
-        (R :* R :+ I :* I :+ form Y zr zi H)
-        (form (A :* A :+ B :* B :+ Y) (A :* P :- B :* neg Q :+ zr) (A :* neg Q :+ B :* P :+ zi) (P :* P :+ Q :* Q :+ H)) refl
+    (R :* R :+ I :* I :+ form Y zr zi H)
+    (form (A :* A :+ B :* B :+ Y) (A :* P :- B :* neg Q :+ zr) (A :* neg Q :+ B :* P :+ zi) (P :* P :+ Q :* Q :+ H)) refl
   where
     X : Poly
     X = var 0
+
     V : Poly
     V = var 1
+
     A : Poly
     A = var 2
+
     B : Poly
     B = var 3
+
     P : Poly
     P = var 4
+
     Q : Poly
     Q = var 5
+
     Y : Poly
     Y = var 6
+
     H : Poly
     H = var 7
+
     zr : Poly
     zr = var 8
+
     zi : Poly
     zi = var 9
+
     form : Poly → Poly → Poly → Poly → Poly
     form y r i h = con (pos 1048576) :* y :- con (pos 2048) :* (X :* r :+ V :* i) :+ (X :* X :+ V :* V) :* h
+
     R : Poly
     R = con (pos 1024) :* A :- (X :* P :- V :* Q)
+
     I : Poly
     I = con (pos 1024) :* B :- (X :* Q :+ V :* P)

@@ -1,6 +1,5 @@
 -- Where both values of a bit occur, there is an extrinsic value.
-use Prim.Native.Nat.{ℕ}
-use mathlib.Core.Path.{_≡_, refl, sym, ap, ap₂, _∙_, subst}
+use mathlib.Core.Path.{_≡_, refl, sym, ap₂, subst}
 use mathlib.Core.Bool.{Bool, true, false, cond, Bool·beq}
 use mathlib.Core.List.{List, [], _∷_, map}
 use Rattle.std.specs.declared.option.Option.{Option}
@@ -9,8 +8,7 @@ use lib.Dec.{T}
 use lib.IntN.{ℤ, pos, _-ℤ_, _*ℤ_}
 use Rattle.std.specs.Numbers.{maxZ}
 use Rattle.std.specs.shelf.Lists.{kept-by}
-use Rattle.constellation.specs.Meaning.{Meaning}
-use Rattle.metric.specs.Exhaustive.{mapped, Symbol, pointBit, allPoints, metric, greater, largest, best, apart, rounded, extrinsic, someOf, seen, Answers}
+use Rattle.metric.specs.Exhaustive.{mapped, pointBit, allPoints, metric, greater, largest, best, apart, rounded, extrinsic, someOf, seen, Answers}
 use Rattle.metric.proofs.Maxes.{largest-kept}
 
 abbrev Is : Option ℤ → Type 0

@@ -1,15 +1,14 @@
 -- Orders of products, quotients rounded down, and what is held within bounds.
-use Prim.Native.Nat.{ℕ, zero, suc, _+_, _*_, _/_, _%_, _≤_, _<_}
+use Prim.Native.Nat.{ℕ, _+_, _*_, _<_}
 use native.Mathlib.Omega.{arith}
 use native.Mathlib.Nat.{mul-le-mul-left, lt-of-mul-lt-mul-left}
-use mathlib.Core.Path.{_≡_, refl, sym, ap, ap₂, _∙_, subst}
-use mathlib.Core.List.{List, [], _∷_}
-use lib.IntN.{ℤ, pos, negsuc, _+ℤ_, _-ℤ_, _*ℤ_, negℤ}
+use mathlib.Core.Path.{_≡_, refl}
+use mathlib.Core.List.{[], _∷_}
+use lib.IntN.{ℤ, pos, negsuc, _+ℤ_, _*ℤ_}
 use lib.Signed.{_≤ℤ_, _<ℤ_, shrZ}
-use borrow.Author.Differences.{up, down, product-is, sum-is, le-out, at-most-in, below-in}
-use Rattle.std.specs.Numbers.{maxZ, minZ}
+use borrow.Author.Differences.{up, down, le-out, below-in}
 use Rattle.std.proofs.shelf.Signed.{ints, clamps}
-use Rattle.arith.specs.Ring.{Poly, var, con, _:+_, _:-_, _:*_, neg}
+use Rattle.arith.specs.Ring.{var, con, _:+_, _:*_}
 use Rattle.metric.specs.Exhaustive.{clipped, rounded}
 use Rattle.arith.proofs.RingLaws.{ring}
 
@@ -34,10 +33,13 @@ floor-le n z y c pn h = below (shrZ z n) (shrZ y n) c (cancel n (shrZ z n) (shrZ
   where
     spread : (n q c : ℤ) → n *ℤ (q +ℤ c +ℤ pos 1) ≡ n *ℤ q +ℤ n +ℤ n *ℤ c
     spread n q c = ring (n ∷ q ∷ c ∷ []) (var 0 :* (var 1 :+ var 2 :+ con (pos 1))) (var 0 :* var 1 :+ var 0 :+ var 0 :* var 2) refl
+
     join : (a b c d e f : ℤ) → a ≤ℤ z → z ≤ℤ (y +ℤ c) → y <ℤ b → d ≡ b +ℤ c → a <ℤ d
     join a b c d e f h₁ h₂ h₃ h₄ = omega (arith, ints)
+
     less : (pos n *ℤ shrZ z n) <ℤ (pos n *ℤ (shrZ y n +ℤ c +ℤ pos 1))
     less = join (pos n *ℤ shrZ z n) (pos n *ℤ shrZ y n +ℤ pos n) (pos n *ℤ c) (pos n *ℤ (shrZ y n +ℤ c +ℤ pos 1)) z z (floor-is z n pn .0) h (floor-is y n pn .1) (spread (pos n) (shrZ y n) c)
+
     below : (a b c : ℤ) → a <ℤ (b +ℤ c +ℤ pos 1) → a ≤ℤ (b +ℤ c)
     below a b c h = omega (arith, ints)
 
@@ -47,5 +49,6 @@ rounded-le S d e c pS h k = clip-le (shrZ (pos 2 *ℤ d +ℤ pos S) (2 * S)) (sh
   where
     double : (s c : ℤ) → (pos 2 *ℤ s) *ℤ c ≡ pos 2 *ℤ (s *ℤ c)
     double s c = ring (s ∷ c ∷ []) (con (pos 2) :* var 0 :* var 1) (con (pos 2) :* (var 0 :* var 1)) refl
+
     more : (p q : ℤ) → d ≤ℤ (e +ℤ p) → q ≡ pos 2 *ℤ p → (pos 2 *ℤ d +ℤ pos S) ≤ℤ (pos 2 *ℤ e +ℤ pos S +ℤ q)
     more p q f g = omega (arith, ints)

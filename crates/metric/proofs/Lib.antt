@@ -10,3 +10,6 @@ pub mod Reordering
 pub mod Values
 pub mod Loops
 pub mod Existing
+pub mod Lawfulness
+pub mod ListSums
+pub mod ValueLaws

@@ -1,18 +1,17 @@
 -- The reduced way's best is the exhaustive one's, doubled.
-use Prim.Native.Nat.{ℕ, _≤_}
+use Prim.Native.Nat.{ℕ}
 use mathlib.Core.Path.{_≡_, refl, sym, ap, ap₂, _∙_}
-use mathlib.Core.Logic.{_≢_}
 use mathlib.Core.Bool.{Bool, true, false, cond, Bool·beq}
-use mathlib.Core.List.{List, [], _∷_, _++_, map}
+use mathlib.Core.List.{List, [], _∷_, map}
 use Rattle.std.specs.declared.option.Option.{Option}
 use Rattle.std.specs.declared.option.Option.the-variants.{Some, None}
 use lib.Dec.{eqb}
-use lib.IntN.{ℤ, pos, negsuc, _+ℤ_, _-ℤ_, _*ℤ_, negℤ}
+use lib.IntN.{ℤ, pos, _+ℤ_, _*ℤ_, negℤ}
 use Rattle.std.specs.shelf.Lists.{kept-by, All}
 use Rattle.constellation.specs.Meaning.{Meaning}
 use Rattle.constellation.specs.declared.Point.{Point}
-use Rattle.metric.specs.Exhaustive.{Complex, Antenna, Symbol, Corner, corners, allPoints, signed, place, labelBit, pointBit, weighed, distance, prior, metric, greater, largest, best}
-use Rattle.metric.specs.Reduced.{energyY, energyH, matched, labelPrior, base, turnV, turnU, choice, quadrantBest, bestOver, Lawful, Reduces}
+use Rattle.metric.specs.Exhaustive.{Symbol, Corner, allPoints, signed, place, labelBit, pointBit, weighed, metric, greater, largest, best}
+use Rattle.metric.specs.Reduced.{energyY, energyH, matched, labelPrior, base, turnV, turnU, quadrantBest, bestOver, Clear, Reduces}
 use Rattle.metric.proofs.Distance.{distance-is}
 use Rattle.metric.proofs.Sums.{prior-is}
 use Rattle.metric.proofs.Maxes.{twice, twice-greater, greater-assoc, largest-kept, offer, choice-is}
@@ -25,21 +24,21 @@ group : (a b c d r : Option ℤ) → greater a (greater b (greater c (greater d 
 group a b c d r =
     ap (λ t. greater a (greater b t)) (sym (greater-assoc c d r)) ∙ ap (greater a) (sym (greater-assoc b (greater c d) r)) ∙ sym (greater-assoc a (greater b (greater c d)) r)
 
-abbrev Clear : Meaning → Point → Type 0
-Clear C q = (labelBit (C .m) (q .label) (C .u) ≡ false) × (labelBit (C .m) (q .label) (C .v) ≡ false)
+abbrev ClearPoint : Meaning → Point → Type 0
+ClearPoint C q = (labelBit (C .m) (q .label) (C .u) ≡ false) × (labelBit (C .m) (q .label) (C .v) ≡ false)
 
-module _ (C : Meaning) (lawful : Lawful C) (S : ℕ) (sym′ : Symbol) (A : ℕ → ℤ) where
+module _ (C : Meaning) (clear-at : Clear C) (S : ℕ) (sym′ : Symbol) (A : ℕ → ℤ) where
   own : ℤ
   own = pos S *ℤ A (C .u) +ℤ pos S *ℤ A (C .v)
 
-  metric-twice : (p : Corner) → Clear C (p .of) →
+  metric-twice : (p : Corner) → ClearPoint C (p .of) →
       pos 2 *ℤ metric C S sym′ A p ≡ base C S sym′ A (p .of) +ℤ signed (p .left) (turnV C S sym′ A (p .of)) +ℤ signed (p .low) (turnU C S sym′ A (p .of)) +ℤ own
   unfolding metric base turnV turnU own
   metric-twice p clear =
       ap₂ (λ n a. pos 2 *ℤ (negℤ (pos (weighed sym′ (p .of)) *ℤ n) +ℤ pos S *ℤ a)) (distance-is (place p) (sym′ .antennas))
-        (prior-is C A p (lawful .u-low) (lawful .u-high) (lawful .v-low) (lawful .v-high) (lawful .apart) (clear .0) (clear .1))
+      (prior-is C A p (clear-at .u-low) (clear-at .u-high) (clear-at .v-low) (clear-at .v-high) (clear-at .apart) (clear .0) (clear .1))
       ∙ doubled (p .left) (p .low) (pos (weighed sym′ (p .of))) (pos (p .of .x)) (pos (p .of .y)) (energyY (sym′ .antennas)) (energyH (sym′ .antennas))
-          (matched (sym′ .antennas) .re) (matched (sym′ .antennas) .im) (pos S) (labelPrior C A (p .of)) (A (C .v)) (A (C .u))
+      (matched (sym′ .antennas) .re) (matched (sym′ .antennas) .im) (pos S) (labelPrior C A (p .of)) (A (C .v)) (A (C .u))
 
   module _ (k : ℕ) (b : Bool) where
     -- the best of the points of a list
@@ -49,7 +48,7 @@ module _ (C : Meaning) (lawful : Lawful C) (S : ℕ) (sym′ : Symbol) (A : ℕ 
     offered : Point → Bool → Bool → Option ℤ
     offered q left low = offer (eqb k (C .v)) (eqb k (C .u)) (labelBit (C .m) (q .label) k) b left low (base C S sym′ A q) (turnV C S sym′ A q) (turnU C S sym′ A q) own
 
-    step : (p : Corner) (ps : List Corner) → Clear C (p .of) → twice (bestIn (p ∷ ps)) ≡ greater (offered (p .of) (p .left) (p .low)) (twice (bestIn ps))
+    step : (p : Corner) (ps : List Corner) → ClearPoint C (p .of) → twice (bestIn (p ∷ ps)) ≡ greater (offered (p .of) (p .left) (p .low)) (twice (bestIn ps))
     unfolding bestIn offered twice
     step p ps clear =
         ap twice (largest-kept (metric C S sym′ A) (λ p. Bool·beq (pointBit C p k) b) p ps)
@@ -60,7 +59,7 @@ module _ (C : Meaning) (lawful : Lawful C) (S : ℕ) (sym′ : Symbol) (A : ℕ 
         go true = ap Some (metric-twice p clear)
         go false = refl
 
-    over : (qs : List Point) → All (Clear C) qs → twice (bestIn (allPoints qs)) ≡ bestOver C S sym′ A k b qs
+    over : (qs : List Point) → All (ClearPoint C) qs → twice (bestIn (allPoints qs)) ≡ bestOver C S sym′ A k b qs
     unfolding bestIn bestOver quadrantBest twice offered own
     over [] clear = refl
     over (q ∷ qs) clear =
@@ -70,9 +69,9 @@ module _ (C : Meaning) (lawful : Lawful C) (S : ℕ) (sym′ : Symbol) (A : ℕ 
         ∙ ap (greater (offered q false true)) (step (corner q true true) (allPoints qs) (clear .0))))
         ∙ group (offered q false false) (offered q true false) (offered q false true) (offered q true true) (twice (bestIn (allPoints qs)))
         ∙ ap₂ greater
-            (choice-is (eqb k (C .v)) (eqb k (C .u)) (labelBit (C .m) (q .label) k) b (base C S sym′ A q) (turnV C S sym′ A q) (turnU C S sym′ A q) own)
-            (over qs (clear .1))
+        (choice-is (eqb k (C .v)) (eqb k (C .u)) (labelBit (C .m) (q .label) k) b (base C S sym′ A q) (turnV C S sym′ A q) (turnU C S sym′ A q) own)
+        (over qs (clear .1))
 
 pub reduces : Reduces
 unfolding best bestIn twice
-reduces C lawful S sym′ A k b = over C lawful S sym′ A k b (C .points) (lawful .clear)
+reduces C clear-at S sym′ A k b = over C clear-at S sym′ A k b (C .points) (clear-at .clear)

@@ -1,18 +1,21 @@
 -- Sums of a function over 1..n, and the a priori part of a point's metric.
-use Prim.Native.Nat.{ℕ, zero, suc, _+_, _≤_, _<_}
+use Prim.Native.Nat.{ℕ, zero, suc, _≤_, _<_}
 use native.Mathlib.Omega.{arith}
 use mathlib.Core.Path.{_≡_, refl, sym, ap, ap₂, _∙_, subst}
-use mathlib.Core.Logic.{_⊎_, inl, inr, _≢_}
+use mathlib.Core.Logic.{inl, inr, _≢_}
 use mathlib.Core.Bool.{Bool, true, false, cond}
-use mathlib.Core.List.{List, [], _∷_}
 use lib.Dec.{T, eqb, eqb→eq}
-use lib.IntN.{ℤ, pos, negsuc, _+ℤ_, _-ℤ_, _*ℤ_, negℤ}
+use lib.IntN.{ℤ, pos, _+ℤ_}
 use borrow.Author.Differences.{ints}
 use Rattle.std.proofs.shelf.Ways.{eqb-tells}
 use Rattle.constellation.specs.Meaning.{Meaning}
-use Rattle.constellation.specs.declared.Point.{Point}
-use Rattle.metric.specs.Exhaustive.{Complex, Corner, labelBit, pointBit, prior, sumTo}
+use Rattle.metric.specs.Exhaustive.{Corner, labelBit, pointBit, prior, sumTo}
 use Rattle.metric.specs.Reduced.{labelPrior}
+
+pub sum-zero : (n : ℕ) → sumTo n (λ j. pos 0) ≡ pos 0
+unfolding sumTo
+sum-zero zero = refl
+sum-zero (suc n) = ap (λ t. t +ℤ pos 0) (sum-zero n)
 
 pub sum-same : (n : ℕ) (f g : ℕ → ℤ) → ((j : ℕ) → 1 ≤ j → j ≤ n → f j ≡ g j) → sumTo n f ≡ sumTo n g
 unfolding sumTo
@@ -41,6 +44,13 @@ eqb-same n = elim (eqb-tells n n) [ inl p ↦ p .0 | inr p ↦ absurd (p .1 refl
 pub eqb-apart : (m n : ℕ) → m ≢ n → eqb m n ≡ false
 eqb-apart m n h = elim (eqb-tells m n) [ inl p ↦ absurd (h (p .1)) | inr p ↦ p .0 ]
 
+-- two tests that say the same
+pub eqb-iff : (a b c d : ℕ) → (a ≡ b → c ≡ d) → (c ≡ d → a ≡ b) → eqb a b ≡ eqb c d
+eqb-iff a b c d h k = elim (eqb-tells a b) [
+  | inl p ↦ p .0 ∙ sym (ap (λ (i : ℕ). eqb i d) (h (p .1)) ∙ eqb-same d)
+  | inr p ↦ p .0 ∙ sym (eqb-apart c d (λ e. p .1 (k e)))
+]
+
 sum-none : (n i : ℕ) (x : ℤ) → n < i → sumTo n (λ j. cond (eqb j i) x (pos 0)) ≡ pos 0
 unfolding sumTo
 sum-none zero i x h = refl
@@ -49,12 +59,14 @@ sum-none (suc n) i x h = ap₂ _+ℤ_ (sum-none n i x (omega arith)) (cond-no (e
 pub sum-single : (n i : ℕ) (x : ℤ) → 1 ≤ i → i ≤ n → sumTo n (λ j. cond (eqb j i) x (pos 0)) ≡ x
 unfolding sumTo
 sum-single zero i x p q = absurd (omega arith)
-sum-single (suc n) i x p q = elim (eqb-tells (suc n) i)
-    [ inl t ↦ ap₂ _+ℤ_ (sum-none n i x (omega arith)) (cond-yes (eqb (suc n) i) x (pos 0) (t .0)) ∙ left-zero x
-    | inr t ↦ ap₂ _+ℤ_ (sum-single n i x p (omega arith)) (cond-no (eqb (suc n) i) x (t .0)) ∙ right-zero x ]
+sum-single (suc n) i x p q = elim (eqb-tells (suc n) i) [
+  | inl t ↦ ap₂ _+ℤ_ (sum-none n i x (omega arith)) (cond-yes (eqb (suc n) i) x (pos 0) (t .0)) ∙ left-zero x
+  | inr t ↦ ap₂ _+ℤ_ (sum-single n i x p (omega arith)) (cond-no (eqb (suc n) i) x (t .0)) ∙ right-zero x
+]
   where
     left-zero : (a : ℤ) → pos 0 +ℤ a ≡ a
     left-zero a = omega (arith, ints)
+
     right-zero : (a : ℤ) → a +ℤ pos 0 ≡ a
     right-zero a = omega (arith, ints)
 
@@ -71,16 +83,20 @@ prior-is C A p u1 um v1 vm uv lu lv =
     sum-same (C .m) (λ j. cond (pointBit C p j) (A j) (pos 0)) (λ j. L j +ℤ V j +ℤ U j) (λ j _ _. each j)
     ∙ sum-add (C .m) (λ j. L j +ℤ V j) U
     ∙ ap₂ _+ℤ_ (sum-add (C .m) L V ∙ ap (λ t. sumTo (C .m) L +ℤ t) (sum-single (C .m) (C .v) (cond (p .left) (A (C .v)) (pos 0)) v1 vm))
-        (sum-single (C .m) (C .u) (cond (p .low) (A (C .u)) (pos 0)) u1 um)
+    (sum-single (C .m) (C .u) (cond (p .low) (A (C .u)) (pos 0)) u1 um)
   where
     L : ℕ → ℤ
     L j = cond (labelBit (C .m) (p .of .label) j) (A j) (pos 0)
+
     V : ℕ → ℤ
     V j = cond (eqb j (C .v)) (cond (p .left) (A (C .v)) (pos 0)) (pos 0)
+
     U : ℕ → ℤ
     U j = cond (eqb j (C .u)) (cond (p .low) (A (C .u)) (pos 0)) (pos 0)
+
     same : (j i : ℕ) → eqb j i ≡ true → j ≡ i
     same j i e = eqb→eq j i (subst T (sym e) tt)
+
     each : (j : ℕ) → cond (pointBit C p j) (A j) (pos 0) ≡ L j +ℤ V j +ℤ U j
     each j = summand (eqb j (C .v)) (eqb j (C .u)) (labelBit (C .m) (p .of .label) j) (p .left) (p .low) (A j) (A (C .v)) (A (C .u))
         (λ e. (ap A (same j (C .v) e), ap (labelBit (C .m) (p .of .label)) (same j (C .v) e) ∙ lv, eqb-apart j (C .u) (λ f. uv (sym f ∙ same j (C .v) e))))

@@ -1,16 +1,15 @@
 -- The reduced way's extrinsic value is the exhaustive one's.
 use Prim.Native.Nat.{ℕ, _*_}
-use mathlib.Core.Path.{_≡_, refl, sym, ap, ap₂, _∙_}
-use mathlib.Core.Bool.{Bool, true, false}
-use mathlib.Core.List.{List, [], _∷_}
+use mathlib.Core.Path.{_≡_, refl, ap, ap₂, _∙_}
+use mathlib.Core.Bool.{true, false}
+use mathlib.Core.List.{[], _∷_}
 use Rattle.std.specs.declared.option.Option.{Option}
 use Rattle.std.specs.declared.option.Option.the-variants.{Some, None}
-use lib.IntN.{ℤ, pos, _+ℤ_, _-ℤ_, _*ℤ_, negℤ}
+use lib.IntN.{ℤ, pos, _+ℤ_, _-ℤ_, _*ℤ_}
 use lib.Signed.{shrZ}
-use Rattle.arith.specs.Ring.{Poly, var, con, _:+_, _:-_, _:*_, neg}
-use Rattle.constellation.specs.Meaning.{Meaning}
-use Rattle.metric.specs.Exhaustive.{mapped, Symbol, best, apart, clipped, rounded, extrinsic}
-use Rattle.metric.specs.Reduced.{bestOver, reducedValue, SameValue}
+use Rattle.arith.specs.Ring.{var, con, _:+_, _:-_, _:*_}
+use Rattle.metric.specs.Exhaustive.{mapped, best, apart, clipped, rounded, extrinsic}
+use Rattle.metric.specs.Reduced.{reducedValue, SameValue}
 use Rattle.arith.proofs.RingLaws.{ring}
 use Rattle.metric.proofs.Reducing.{reduces}
 
@@ -26,6 +25,6 @@ halved S a (Some p) (Some q) = ap (λ (t : ℤ). Some (clipped (shrZ t (2 * S)))
 
 pub same-value : SameValue
 unfolding extrinsic reducedValue
-same-value C lawful S s A k =
+same-value C clear S s A k =
     halved S (A k) (best C S s A k true) (best C S s A k false)
-    ∙ ap₂ (λ (o z : Option ℤ). mapped (λ D. clipped (shrZ (D -ℤ pos 2 *ℤ (pos S *ℤ A k) +ℤ pos S) (2 * S))) (apart o z)) (reduces C lawful S s A k true) (reduces C lawful S s A k false)
+    ∙ ap₂ (λ (o z : Option ℤ). mapped (λ D. clipped (shrZ (D -ℤ pos 2 *ℤ (pos S *ℤ A k) +ℤ pos S) (2 * S))) (apart o z)) (reduces C clear S s A k true) (reduces C clear S s A k false)

@@ -3,3 +3,4 @@ pub mod Reduced
 pub mod Bounds
 pub mod Orders
 pub mod Value
+pub mod ValueLaws

@@ -2,8 +2,6 @@
 use Prim.Native.Nat.{ℕ, _≤_}
 use mathlib.Core.Path.{_≡_}
 use mathlib.Core.List.{List}
-use Rattle.std.specs.declared.option.Option.{Option}
-use Rattle.std.specs.declared.option.Option.the-variants.{Some, None}
 use lib.IntN.{ℤ}
 use Rattle.std.specs.shelf.Lists.{Each}
 use Rattle.constellation.specs.Meaning.{Meaning}
@@ -22,9 +20,11 @@ pub record Relabelled (m : ℕ) (t : ℕ → ℕ) (q r : Point) : Type 0 where
   pub e : r .e ≡ q .e
   pub bits : (j : ℕ) → 1 ≤ j → j ≤ m → labelBit m (r .label) (t j) ≡ labelBit m (q .label) j
 
+-- C with its bits moved by t, its quadrant points now rs
 abbrev pub reordered : Meaning → (ℕ → ℕ) → List Point → Meaning
 reordered C t rs = record { m = C .m; u = t (C .u); v = t (C .v); points = rs }
 
+-- each extrinsic value moves with its bit
 abbrev pub Moves : Type 0
 Moves = (C : Meaning) (t back : ℕ → ℕ) (rs : List Point) → Permutes (C .m) t back → Each (Relabelled (C .m) t) (C .points) rs →
     1 ≤ C .u → C .u ≤ C .m → 1 ≤ C .v → C .v ≤ C .m →

@@ -10,7 +10,7 @@ use lib.ListN.{getD}
 use Rattle.constellation.specs.Meaning.{Meaning}
 use Rattle.metric.specs.Exhaustive.{Symbol, atBit, extrinsic}
 
--- a lawful constellation has points for both values of each bit, so the `None` never comes there
+-- the number, or 0 where there is none; over a lawful constellation there is always one, since each value of each bit occurs
 abbrev pub orZero : Option ℤ → ℤ
 orZero None = pos 0
 orZero (Some l) = l

@@ -1,1 +1,3 @@
 pub mod Observed
+pub mod Joining
+pub mod Sizes

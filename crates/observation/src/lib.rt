@@ -5,6 +5,7 @@ ghost use Prim.Native.Nat.{_≤_};
 ghost use lib.ListN.{length};
 ghost use Rattle.std.specs.shelf.Lists.{All};
 ghost use Rattle.observation.specs.Observed.{Ranged, Measured, held, symbolOf};
+ghost use Rattle.observation.specs.Joining.{energyOf, correlation, Room, Joined};
 
 /// A complex number as a receiver gives it, each part from -1023 to 1023.
 #[derive(Clone, Copy, PartialEq, Eq, Debug)]
@@ -23,6 +24,41 @@ pub struct Record {
     pub weight: u16,
 }
 
+/// |s|²
+fn energy(s: Sample) -> u32
+    requires { ⌜ Ranged s ⌝ }
+    ensures { λ r. ⌜ r ≡ energyOf s ⌝ }
+{
+    let re = s.re.unsigned_abs() as u32;
+    let im = s.im.unsigned_abs() as u32;
+    re * re + im * im
+}
+
+/// y times the conjugate of h: the real part and the imaginary one.
+fn correlated(y: Sample, h: Sample) -> (i32, i32)
+    requires { ⌜ (Ranged y) × (Ranged h) ⌝ }
+    ensures { λ r. ⌜ r ≡ correlation y h ⌝ }
+{
+    let (y_re, y_im) = (y.re as i32, y.im as i32);
+    let (h_re, h_im) = (h.re as i32, h.im as i32);
+    (y_re * h_re + y_im * h_im, y_im * h_re - y_re * h_im)
+}
+
+/// The record with one more antenna's part.
+fn joined(before: Record, y: Sample, h: Sample) -> Record
+    requires { ⌜ (Room before) × (Ranged y) × (Ranged h) ⌝ }
+    ensures { λ r. ⌜ Joined before y h r ⌝ }
+{
+    let (z_re, z_im) = correlated(y, h);
+    Record {
+        z_re: before.z_re + z_re,
+        z_im: before.z_im + z_im,
+        y_energy: before.y_energy + energy(y),
+        h_energy: before.h_energy + energy(h),
+        weight: before.weight,
+    }
+}
+
 /// The record of a symbol that was received as `y` over the reference `h`.
 pub fn observe(y: &[Sample], h: &[Sample], weight: u16) -> Record
     requires alike { ⌜ length (now y) ≡ length (now h) ⌝ }
@@ -33,7 +69,7 @@ pub fn observe(y: &[Sample], h: &[Sample], weight: u16) -> Record
     ensures value { λ r. ⌜ r ≡ held (symbolOf (now (y .entry)) (now (h .entry)) weight) ⌝ }
     ensures small { λ r. ⌜ Measured r ⌝ }
 {
-    let mut record = Record {
+    let mut total = Record {
         z_re: 0,
         z_im: 0,
         y_energy: 0,
@@ -41,7 +77,7 @@ pub fn observe(y: &[Sample], h: &[Sample], weight: u16) -> Record
         weight,
     };
     for i in 0..y.len() {
-        record = joined(record, y[i], h[i]);
+        total = joined(total, y[i], h[i]);
     }
-    record
+    total
 }

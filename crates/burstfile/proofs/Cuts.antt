@@ -1,0 +1,57 @@
+-- The sections as the code cuts them: `rest` of a slice pattern is `take (length bs - k) (drop k bs)`.
+use mathlib.Core.Path.{_≡_, refl, sym, _∙_, ap}
+use mathlib.Core.Bool.{true, cond}
+use mathlib.Core.List.{List, [], _∷_}
+use Prim.Native.Nat.{ℕ, _+_, _-_, _*_, _<_, _≤_}
+use native.Mathlib.Omega.{arith}
+use borrow.Author.Needs.{needs}
+use lib.Dec.{leb, eqb}
+use lib.ListN.{length, getD, take, drop}
+use Rattle.std.proofs.shelf.Lists.{take-rest}
+use Rattle.std.proofs.shelf.Ways.{tells}
+use Rattle.std.proofs.shelf.Tests.{le-leb, eq-eqb}
+use Rattle.std.specs.declared.result.Result.the-variants.{Ok, Err}
+use Rattle.burstfile.specs.Reading.{cut, cutVectors, cutPriors, recordsSize, priorsAllowed, Layout}
+
+abbrev pub rest : ℕ → List ℕ → List ℕ
+rest k bs = take (length bs - k) (drop k bs)
+
+pub go-settings : (bs : List ℕ) → 3 ≤ length bs → getD bs 0 0 ≡ 2 → 1 ≤ getD bs 1 0 → getD bs 1 0 ≤ 10
+    → 1 ≤ length (drop 3 bs) → 1 ≤ getD (drop 3 bs) 0 0 → getD (drop 3 bs) 0 0 ≤ 4
+    → cut bs ≡ cutVectors (length bs) (getD bs 1 0) (getD bs 2 0) (getD (drop 3 bs) 0 0) (drop 1 (drop 3 bs))
+go-settings [] l3 magic low high l1 alow ahigh = absurd (omega arith)
+go-settings (a ∷ []) l3 magic low high l1 alow ahigh = absurd (omega arith)
+go-settings (a ∷ b ∷ []) l3 magic low high l1 alow ahigh = absurd (omega arith)
+go-settings (a ∷ b ∷ c ∷ []) l3 magic low high l1 alow ahigh = absurd (omega arith)
+go-settings (a ∷ b ∷ c ∷ d ∷ bs) l3 magic low high l1 alow ahigh =
+    rw (eq-eqb a 2 magic, le-leb 1 b low, le-leb b 10 high, le-leb 1 d alow, le-leb d 4 ahigh)
+
+pub settings-step : (bs : List ℕ) → 3 ≤ length bs → getD bs 0 0 ≡ 2 → 1 ≤ getD bs 1 0 → getD bs 1 0 ≤ 10
+    → 1 ≤ length (rest 3 bs) → 1 ≤ getD (rest 3 bs) 0 0 → getD (rest 3 bs) 0 0 ≤ 4
+    → cut bs ≡ cutVectors (length bs) (getD bs 1 0) (getD bs 2 0) (getD (rest 3 bs) 0 0) (rest 1 (rest 3 bs))
+settings-step bs = simp take-rest (go-settings bs)
+
+-- a count in two bytes
+abbrev pub counted : List ℕ → ℕ
+counted bs = getD bs 0 0 * 256 + getD bs 1 0
+
+pub go-records : (total mode shift antennas n : ℕ) (bs : List ℕ) → 2 ≤ length bs → n ≡ counted bs → recordsSize mode antennas n ≤ length (drop 2 bs)
+    → cutVectors total mode shift antennas bs ≡ cutPriors total mode shift antennas n (take (recordsSize mode antennas n) (drop 2 bs)) (drop (recordsSize mode antennas n) (drop 2 bs))
+go-records total mode shift antennas n [] l2 e fits = absurd (omega arith)
+go-records total mode shift antennas n (a ∷ []) l2 e fits = absurd (omega arith)
+go-records total mode shift antennas n (a ∷ b ∷ bs) l2 e fits = rw (← e, le-leb (recordsSize mode antennas n) (length bs) fits)
+
+pub records-step : (total mode shift antennas n : ℕ) (bs : List ℕ) → 2 ≤ length bs → n ≡ counted bs → recordsSize mode antennas n ≤ length (rest 2 bs)
+    → cutVectors total mode shift antennas bs ≡ cutPriors total mode shift antennas n (take (recordsSize mode antennas n) (rest 2 bs)) (drop (recordsSize mode antennas n) (rest 2 bs))
+records-step total mode shift antennas n bs = simp take-rest (go-records total mode shift antennas n bs)
+
+pub go-priors : (total mode shift antennas n k : ℕ) (records bs : List ℕ) → 2 ≤ length bs → k ≡ counted bs → priorsAllowed mode n k ≡ true → length (drop 2 bs) ≡ 2 * k
+    → cutPriors total mode shift antennas n records bs ≡ Ok (record { mode = mode; shift = shift; antennas = antennas; count = n; records = records; priors = drop 2 bs })
+go-priors total mode shift antennas n k records [] l2 e allowed ends = absurd (omega arith)
+go-priors total mode shift antennas n k records (a ∷ []) l2 e allowed ends = absurd (omega arith)
+go-priors total mode shift antennas n k records (a ∷ b ∷ bs) l2 e allowed ends =
+    rw (← e, le-leb (2 * k) (length bs) (omega arith), allowed, eq-eqb (length bs) (2 * k) ends)
+
+pub priors-step : (total mode shift antennas n k : ℕ) (records bs : List ℕ) → 2 ≤ length bs → k ≡ counted bs → priorsAllowed mode n k ≡ true → length (rest 2 bs) ≡ 2 * k
+    → cutPriors total mode shift antennas n records bs ≡ Ok (record { mode = mode; shift = shift; antennas = antennas; count = n; records = records; priors = rest 2 bs })
+priors-step total mode shift antennas n k records bs = simp take-rest (go-priors total mode shift antennas n k records bs)

@@ -1,0 +1,5 @@
+pub mod Refused
+pub mod Format
+pub mod Reading
+pub mod Values
+pub mod Theorem

@@ -1,0 +1,3 @@
+pub mod Energies
+pub mod Antennas
+pub mod Sizes

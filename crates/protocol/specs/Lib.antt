@@ -1,0 +1,4 @@
+pub mod Verdicts
+pub mod Placings
+pub mod Calls
+pub mod Stands
