@@ -1,0 +1,2 @@
+pub mod Psks
+pub mod Squares
