@@ -6,7 +6,7 @@ ghost use Prim.Native.Nat.{_+_, _*_, _^_, _<_, _≤_};
 ghost use lib.ListN.{length};
 ghost use Rattle.std.specs.declared.option.Option.the-variants.{Some};
 ghost use Rattle.constellation.specs.Meaning.{place};
-ghost use Rattle.rings.specs.Copies.{copies, bits as bitsOf};
+ghost use Rattle.rings.specs.Copies.{copies};
 ghost use Rattle.rings.specs.Layered.{scaled, copied, copiedAt, room};
 ghost use Rattle.rings.specs.Made.{Answered, layerMeaning};
 use crate::plan::Copied;
