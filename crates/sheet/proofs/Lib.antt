@@ -1,0 +1,4 @@
+mod Accepted
+mod Places
+mod Pages
+mod Round
