@@ -1,17 +1,10 @@
--- What an accepted call says of the size, the lengths and what it left.
+-- What an accepted call says of the lengths and what it left.
 use mathlib.Core.Path.{_≡_, ap, _∙_}
 use Prim.Native.Nat.{ℕ, _*_}
 use native.Mathlib.Omega.{arith}
 use Rattle.std.proofs.shelf.Ways.{tells}
 use Rattle.std.specs.declared.result.Result.the-variants.{Ok}
-use Rattle.sheet.specs.Order.{Fit}
-use Rattle.sheet.specs.Calls.{Reply, reply, fitting, verdict, after}
-
-pub long : (n needed : ℕ) → reply n needed ≡ Ok tt → n ≡ needed
-long n needed e = grind (arith, tells)
-
-pub fits : (rows columns count : ℕ) → fitting rows columns count ≡ Ok tt → Fit rows columns count
-fits rows columns count e = record { tall = grind (arith, tells); wide = grind (arith, tells); whole = grind (arith, tells) }
+use Rattle.sheet.specs.Calls.{Reply, verdict, after}
 
 pub own-length : (rows columns count n needed : ℕ) → verdict rows columns count n needed ≡ Ok tt → count ≡ rows * columns
 own-length rows columns count n needed e = grind (arith, tells)

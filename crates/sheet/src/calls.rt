@@ -1,41 +1,16 @@
 //! What a table does. Each call tests the table's size first, then the table's own length, then that of the other slice.
 
-ghost use mathlib.Core.Path.{_≡_};
-ghost use Prim.Native.Nat.{_*_};
-ghost use denote.Ref.{name};
-ghost use lib.ListN.{length, replicate};
-ghost use Rattle.std.specs.shelf.Lists.{joined};
-ghost use Rattle.sheet.specs.Calls.{Same, Interleaved, Deinterleaved, Wiped, Paged, held};
+ghost use Rattle.sheet.specs.Calls.{Same, Interleaved, Deinterleaved, Wiped, Paged};
+use crate::blank::blanks;
 use crate::element::Element;
 use crate::length::exactly;
 use crate::length::fit;
 use crate::order::turn;
-use crate::paper::blanks;
 use crate::paper::bytes;
 use crate::table::Sheet;
 use refusal::Refusal;
 
 impl<'a, T: Copy> Sheet<'a, T> {
-    /// A table over `cells`: what `cells` holds at the end is what the table then holds.
-    pub fn over(rows: usize, columns: usize, cells: &'a mut [T]) -> Self
-        ensures shape { λ r. ⌜ r .rows ≡ rows ⌝ ∗ ⌜ r .columns ≡ columns ⌝ }
-        ensures holds { λ r. ⌜ held r ≡ now (cells .entry) ⌝ }
-        ensures memory { λ r. ⌜ name (r .cells) ≡ name (cells .entry) ⌝ }
-    {
-        Sheet {
-            rows,
-            columns,
-            cells,
-        }
-    }
-
-    /// What the table holds, row after row.
-    pub fn cells(&self) -> &[T]
-        ensures { λ r. ⌜ now r ≡ held (now (self .entry)) ⌝ }
-    {
-        self.cells
-    }
-
     /// Deals the table into `out`, column after column: a block interleaver.
     pub fn interleave(&self, out: &mut [T]) -> Result<(), Refusal>
         ensures { λ r. ⌜ Interleaved (now (self .entry)) (now (out .entry)) r (now (out .exit)) ⌝ }

@@ -73,7 +73,7 @@ pub impl Element for u8 as Hard {
 
     fn put(self, out: &mut [u8]) -> Result<(), Refusal> {
         exactly(out.len(), Self::WIDTH)?;
-        out.copy_from_slice(&self.to_be_bytes());
+        out.copy_from_slice(&[self]);
         Ok(())
     }
 }

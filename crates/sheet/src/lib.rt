@@ -1,9 +1,11 @@
 //! A table of rows and columns over memory that is lent to it: wiped, interleaved, deinterleaved and paged.
 
+mod blank;
 mod calls;
 mod element;
 mod laws;
 mod length;
+mod making;
 mod order;
 mod paper;
 mod table;

@@ -1,27 +1,16 @@
-//! Blanks, and the bytes of a table.
+//! The bytes of a table.
 
 ghost use mathlib.Core.Path.{_≡_};
-ghost use Prim.Native.Nat.{_*_, _≤_};
-ghost use lib.ListN.{length, replicate};
+ghost use Prim.Native.Nat.{_*_};
+ghost use lib.ListN.{length};
 ghost use Rattle.std.specs.declared.result.Result.the-variants.{Ok};
 ghost use Rattle.std.specs.shelf.Lists.{joined};
 ghost use Rattle.sheet.specs.Bytes.{readBack};
 use crate::element::Element;
 use refusal::Refusal;
 
-/// Makes every element blank.
-pub(crate) fn blanks<T: Element>(cells: &mut [T])
-    ensures { λ _. ⌜ now (cells .exit) ≡ replicate (length (now (cells .entry))) (T·Element .empty) ⌝ }
-{
-    let blank = T::empty();
-    for i in 0..cells.len() {
-        cells[i] = blank;
-    }
-}
-
 /// Writes the bytes of every element, one element after another.
 pub(crate) fn bytes<T: Element>(cells: &[T], out: &mut [u8]) -> Result<(), Refusal>
-    requires few { ⌜ length (now cells) ≤ 16777216 ⌝ }
     requires room { ⌜ length (now out) ≡ length (now cells) * T·Element .size ⌝ }
     ensures answer { λ r. ⌜ r ≡ Ok tt ⌝ }
     ensures told { λ r. ⌜ now (out .exit) ≡ joined (T·Element .coded) (now (cells .entry)) ⌝ }

@@ -5,7 +5,7 @@ use mathlib.Core.Path.{_≡_, sym, ap, _∙_}
 use lib.ListN.{length, getD, replicate}
 use Rattle.std.proofs.shelf.Edits.{fill-by-more}
 use Rattle.std.proofs.shelf.Lists.{ext-getD, getD-replicate, length-replicate}
-use Rattle.sheet.proofs.paper.blanks.Needs as need
+use Rattle.sheet.proofs.blank.blanks.Needs as need
 
 pub loop-i-again : need.loop-i-again
 loop-i-again g c = fill-by-more (λ _. c .empty-blank .result) (c .loop-i .cells) (c .loop-i .i) (c .empty-blank .result) (omega arith) (c .loop-i .inv)
