@@ -1,4 +1,2 @@
-mod Accepted
 mod Places
 mod Pages
-mod Round

@@ -10,7 +10,9 @@ use Rattle.std.specs.shelf.Lists.{paste, joined}
 use Rattle.std.proofs.shelf.Edits.{paste-paste, paste-all, length-paste}
 use Rattle.std.proofs.shelf.Parts.{putMid-paste}
 use Rattle.std.proofs.shelf.Lists.{take-more, joined-more, length-append, length-take-le, take-all, drop-all, take-append-le, drop-append-le, append-nil}
+use Rattle.std.specs.declared.result.Result.the-variants.{Ok}
 use Rattle.sheet.specs.Bytes.{readBack}
+use Rattle.sheet.specs.Calls.{Reply, after}
 
 -- the next element lies within the slice
 pub next-within : (k n w : ℕ) → k < n → k * w + w ≤ n * w
@@ -55,3 +57,7 @@ read-joined f w wide dec (x ∷ xs) h =
     let b : dec (f x) ≡ x = h 0 x (omega arith) in
     let r : readBack w dec (length xs) (joined f xs) ≡ xs = read-joined f w wide dec xs (λ k e l. h (suc k) e (omega arith)) in
     cc
+
+-- an accepted call left the new
+pub taken : {X : Type 0} (r : Reply) (x new old : X) → r ≡ Ok tt → x ≡ after r new old → x ≡ new
+taken r x new old k e = e ∙ ap (λ z. after z new old) k

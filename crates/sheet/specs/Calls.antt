@@ -50,17 +50,20 @@ verdict rows columns count n needed = cond (small rows columns) (cond (eqb count
 pub record Same {X : Type 0} (s t : Sheet X) : Type 0 where
   pub rows : t .rows ≡ s .rows
   pub columns : t .columns ≡ s .columns
+  pub count : length (held t) ≡ length (held s)
   pub memory : name (t .cells) ≡ name (s .cells)
 
--- the table s into a slice that held ys: it then holds out
+-- the table s into a slice that held ys: it then holds out, from which the table comes back
 pub record Interleaved {X : Type 0} (s : Sheet X) (ys : List X) (r : Reply) (out : List X) : Type 0 where
   pub answer : r ≡ verdict (s .rows) (s .columns) (length (held s)) (length ys) (s .rows * s .columns)
   pub slice : out ≡ after r (interleaved (s .rows) (s .columns) (held s)) ys
+  pub back : r ≡ Ok tt → deinterleaved (s .rows) (s .columns) out ≡ held s
 
--- the table s from a slice that holds ys: it is then t
+-- the table s from a slice that holds ys: it is then t, from which the slice comes back
 pub record Deinterleaved {X : Type 0} (s : Sheet X) (ys : List X) (r : Reply) (t : Sheet X) : Type 0 where
   pub answer : r ≡ verdict (s .rows) (s .columns) (length (held s)) (length ys) (s .rows * s .columns)
   pub left : held t ≡ after r (deinterleaved (s .rows) (s .columns) ys) (held s)
+  pub back : r ≡ Ok tt → interleaved (s .rows) (s .columns) (held t) ≡ ys
 
 -- the table s, wiped: it is then t
 pub record Wiped {X : Type 0} (blank : X) (s : Sheet X) (r : Reply) (t : Sheet X) : Type 0 where

@@ -3,13 +3,14 @@
 ghost use mathlib.Core.Path.{_≡_};
 ghost use Prim.Native.Nat.{_*_};
 ghost use lib.ListN.{length};
-ghost use Rattle.sheet.specs.Order.{Fit, interleaved};
+ghost use Rattle.sheet.specs.Order.{Fit, interleaved, deinterleaved};
 
-/// Copies the table `from`, stored row after row, into `into`, column after column.
+/// Copies the table `from`, stored row after row, into `into`, column after column: nothing is lost.
 pub(crate) fn turn<T: Copy>(rows: usize, columns: usize, from: &[T], into: &mut [T])
     requires fit { ⌜ Fit rows columns (length (now from)) ⌝ }
     requires room { ⌜ length (now into) ≡ rows * columns ⌝ }
-    ensures { λ _. ⌜ now (into .exit) ≡ interleaved rows columns (now (from .entry)) ⌝ }
+    ensures told { λ _. ⌜ now (into .exit) ≡ interleaved rows columns (now (from .entry)) ⌝ }
+    ensures back { λ _. ⌜ deinterleaved rows columns (now (into .exit)) ≡ now (from .entry) ⌝ }
 {
     for c in 0..columns {
         for r in 0..rows {

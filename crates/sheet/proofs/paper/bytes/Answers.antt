@@ -5,8 +5,7 @@ use Prim.Native.Nat.{ℕ, _+_, _*_, _-_, _≤_, _<_}
 use mathlib.Core.Path.{_≡_, refl, sym, ap, _∙_}
 use lib.ListN.{length, getD}
 use Rattle.std.proofs.shelf.Lists.{getD-read}
-use Rattle.sheet.proofs.Accepted.{taken}
-use Rattle.sheet.proofs.Pages.{next-within, page-step, page-end, read-joined}
+use Rattle.sheet.proofs.Pages.{next-within, page-step, page-end, read-joined, taken}
 use Rattle.sheet.proofs.paper.bytes.Needs as need
 
 pub part-put-end : need.part-put-end
