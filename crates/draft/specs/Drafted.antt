@@ -1,6 +1,6 @@
 -- What a draft holds: the state of an open burst by the records of its symbols.
 use mathlib.Core.Bool.{cond}
-use mathlib.Core.List.{List, [], _∷_}
+use mathlib.Core.List.{List, [], _∷_, _++_}
 use Prim.Native.Nat.{ℕ}
 use lib.Dec.{eqb}
 use lib.ListN.{take}
@@ -30,6 +30,14 @@ view d = record { records = take (d .len) (d .records); number = d .number; shif
 
 abbrev pub empty : ℕ → ℕ → View
 empty number shift = record { records = []; number = number; shift = shift; reference = None }
+
+-- one record more
+abbrev pub added : View → Record → View
+added v x = record { records = v .records ++ (x ∷ []); number = v .number; shift = v .shift; reference = v .reference }
+
+-- y is the reference from here on
+abbrev pub referring : View → List Sample → View
+referring v y = record { records = v .records; number = v .number; shift = v .shift; reference = Some y }
 
 -- what a placing leaves, by its verdict
 abbrev pub placeLeft : Verdict → View → Placing → View
