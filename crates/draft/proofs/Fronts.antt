@@ -1,31 +1,18 @@
--- Lists of which every element passes a test, and what a passed test says.
+-- Lists of which every element passes a test.
 use mathlib.Core.Path.{_≡_, refl, sym, ap, _∙_}
 use mathlib.Core.Bool.{Bool, true, false, cond}
 use mathlib.Core.List.{List, [], _∷_, _++_}
-use Prim.Native.Nat.{ℕ, zero, suc, _+_, _-_, _≤_, _<_}
-use native.Mathlib.Nat.{zero-add}
+use Prim.Native.Nat.{ℕ, zero, suc, _+_, _≤_}
 use native.Mathlib.Omega.{arith}
-use lib.Dec.{eqb, leb}
-use lib.IntN.{ℤ, pos, negsuc, natAbs}
+use lib.IntN.{ℤ, natAbs}
 use lib.ListN.{length, set, take, drop}
-use Rattle.std.specs.declared.result.Result.the-variants.{Ok, Err}
 use Rattle.std.specs.shelf.Lists.{leading, All}
-use Rattle.std.proofs.shelf.Lists.{length-append, length-drop, take-at}
+use Rattle.std.proofs.shelf.Lists.{length-append, length-drop}
 use Rattle.std.proofs.shelf.Signed.{ints}
-use Rattle.std.proofs.shelf.Tests.{and-parts, eqb-true, ne-eqb}
-use Rattle.refusal.specs.declared.Cause.{Cause}
+use Rattle.std.proofs.shelf.Tests.{and-parts}
 use Rattle.observation.specs.declared.Sample.{Sample}
 use Rattle.observation.specs.Observed.{Ranged}
-use Rattle.protocol.specs.Verdicts.{Verdict, accepted, need, each}
 use Rattle.protocol.specs.Placings.{part, fine}
-
--- a test that let a call go on
-pub passed : (b : Bool) (c : Cause) (p : ℕ) → accepted ≡ need b c p accepted → b ≡ true
-passed true c p h = refl
-passed false c p h = cc
-
-pub all-passed : {X : Type 0} (p : X → Bool) (xs : List X) (c : Cause) → accepted ≡ each p xs c accepted → leading p xs ≡ length xs
-all-passed p xs c h = eqb-true _ _ (passed _ _ _ h)
 
 -- one step of the lemmas below
 step : (b : Bool) (a n k l : ℕ) → cond b (1 + a) 0 ≡ suc n → (a ≡ n → k ≡ l) → cond b (1 + k) 0 ≡ suc l
@@ -66,6 +53,7 @@ module _ {X : Type 0} (p : X → Bool) where
   leading-all P f [] h = tt
   leading-all P f (x ∷ xs) h = (f x (first (p x) _ _ h), leading-all P f xs (rest (p x) _ _ h))
 
+-- the test of a part, and of a sample, says what the bounds say
 small : (z : ℤ) → part z ≡ true → natAbs z ≤ 1023
 small z h = grind (arith, ints)
 
@@ -78,8 +66,10 @@ pub all-ranged : (v : List Sample) → leading fine v ≡ length v → All Range
 all-ranged v h = leading-all fine Ranged fine-is v h
 
 -- a vector over the first samples of a reference
-pub over-length : (y r : List Sample) → length r ≡ 4 → length y ≤ 4 → length (y ++ drop (length y) r) ≡ 4
-over-length y r e l = simp (length-append, length-drop) (omega arith)
+pub over-length : (y r s : List Sample) → s ≡ y ++ drop (length y) r → length r ≡ 4 → length y ≤ 4 → length s ≡ 4
+over-length y r s is e l = rw is (simp (length-append, length-drop) (omega arith))
 
-pub over-fine : (y r : List Sample) → leading fine y ≡ length y → length r ≡ 4 → leading fine r ≡ 4 → length y ≤ 4 → leading fine (y ++ drop (length y) r) ≡ 4
-over-fine y r h e f l = leading-append fine y (drop (length y) r) h (leading-drop fine (length y) r (f ∙ sym e)) ∙ over-length y r e l
+pub over-fine : (y r s : List Sample) → s ≡ y ++ drop (length y) r → leading fine y ≡ length y → length r ≡ 4 → leading fine r ≡ 4 → length y ≤ 4 → leading fine s ≡ 4
+over-fine y r s is h e f l =
+    rw is (leading-append fine y (drop (length y) r) h (leading-drop fine (length y) r (f ∙ sym e)))
+    ∙ over-length y r s is e l

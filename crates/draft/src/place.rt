@@ -1,10 +1,9 @@
 //! Placing symbols.
 
 ghost use mathlib.Core.Path.{_≡_};
-ghost use mathlib.Core.Bool.{true};
 ghost use mathlib.Core.List.{_++_};
 ghost use Prim.Native.Nat.{_≤_, _<_};
-ghost use lib.ListN.{length, drop};
+ghost use lib.ListN.{length, take, drop};
 ghost use Rattle.std.specs.shelf.Lists.{leading};
 ghost use Rattle.observation.specs.Observed.{Measured};
 ghost use Rattle.protocol.specs.Placings.{placeVerdict, coherent, differential, fine};
@@ -21,8 +20,13 @@ use refusal::Refusal;
 
 /// Writes the vector over the first samples of the reference.
 fn overwrite(reference: &mut [Sample; 4], y: &[Sample])
-    requires { ⌜ length (now y) ≤ 4 ⌝ }
-    ensures { λ _. ⌜ now (reference .exit) ≡ now (y .entry) ++ drop (length (now (y .entry))) (now (reference .entry)) ⌝ }
+    requires four { ⌜ length (now y) ≤ 4 ⌝ }
+    requires sound { ⌜ leading fine (now y) ≡ length (now y) ⌝ }
+    requires tuned { ⌜ leading fine (now reference) ≡ 4 ⌝ }
+    ensures value { λ _. ⌜ now (reference .exit) ≡ now (y .entry) ++ drop (length (now (y .entry))) (now (reference .entry)) ⌝ }
+    ensures front { λ _. ⌜ take (length (now (y .entry))) (now (reference .exit)) ≡ now (y .entry) ⌝ }
+    ensures four { λ _. ⌜ length (now (reference .exit)) ≡ 4 ⌝ }
+    ensures tuned { λ _. ⌜ leading fine (now (reference .exit)) ≡ 4 ⌝ }
 {
     reference[0..y.len()].copy_from_slice(y);
 }
