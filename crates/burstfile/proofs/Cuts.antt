@@ -8,26 +8,28 @@ use borrow.Author.Needs.{needs}
 use lib.Dec.{leb, eqb}
 use lib.ListN.{length, getD, take, drop}
 use Rattle.std.proofs.shelf.Lists.{take-rest}
-use Rattle.std.proofs.shelf.Ways.{tells}
-use Rattle.std.proofs.shelf.Tests.{le-leb, eq-eqb}
-use Rattle.std.specs.declared.result.Result.the-variants.{Ok, Err}
-use Rattle.burstfile.specs.Reading.{cut, cutVectors, cutPriors, recordsSize, priorsAllowed, Layout}
+use Rattle.std.proofs.shelf.Tests.{le-leb}
+use Rattle.std.specs.declared.option.Option.{Option}
+use Rattle.std.specs.declared.option.Option.the-variants.{None}
+use Rattle.std.specs.declared.result.Result.the-variants.{Ok}
+use Rattle.burstfile.specs.Reading.{Layout, cut, cutAntennas, cutVectors, cutPriors, recordsSize, unlessBroken, brokenSettings, brokenAntennas, brokenPriors}
 
 abbrev pub rest : ℕ → List ℕ → List ℕ
 rest k bs = take (length bs - k) (drop k bs)
 
-pub go-settings : (bs : List ℕ) → 3 ≤ length bs → getD bs 0 0 ≡ 2 → 1 ≤ getD bs 1 0 → getD bs 1 0 ≤ 10
-    → 1 ≤ length (drop 3 bs) → 1 ≤ getD (drop 3 bs) 0 0 → getD (drop 3 bs) 0 0 ≤ 4
+pub go-settings : (bs : List ℕ) → 3 ≤ length bs → brokenSettings (getD bs 0 0) (getD bs 1 0) ≡ None
+    → 1 ≤ length (drop 3 bs) → brokenAntennas (getD (drop 3 bs) 0 0) ≡ None
     → cut bs ≡ cutVectors (length bs) (getD bs 1 0) (getD bs 2 0) (getD (drop 3 bs) 0 0) (drop 1 (drop 3 bs))
-go-settings [] l3 magic low high l1 alow ahigh = absurd (omega arith)
-go-settings (a ∷ []) l3 magic low high l1 alow ahigh = absurd (omega arith)
-go-settings (a ∷ b ∷ []) l3 magic low high l1 alow ahigh = absurd (omega arith)
-go-settings (a ∷ b ∷ c ∷ []) l3 magic low high l1 alow ahigh = absurd (omega arith)
-go-settings (a ∷ b ∷ c ∷ d ∷ bs) l3 magic low high l1 alow ahigh =
-    rw (eq-eqb a 2 magic, le-leb 1 b low, le-leb b 10 high, le-leb 1 d alow, le-leb d 4 ahigh)
+go-settings [] l3 settings l1 antennas = absurd (omega arith)
+go-settings (a ∷ []) l3 settings l1 antennas = absurd (omega arith)
+go-settings (a ∷ b ∷ []) l3 settings l1 antennas = absurd (omega arith)
+go-settings (a ∷ b ∷ c ∷ []) l3 settings l1 antennas = absurd (omega arith)
+go-settings (a ∷ b ∷ c ∷ d ∷ bs) l3 settings l1 antennas =
+    ap (λ (o : Option ℕ). unlessBroken o (cutAntennas (length (a ∷ b ∷ c ∷ d ∷ bs)) b c (d ∷ bs))) settings
+    ∙ ap (λ (o : Option ℕ). unlessBroken o (cutVectors (length (a ∷ b ∷ c ∷ d ∷ bs)) b c d bs)) antennas
 
-pub settings-step : (bs : List ℕ) → 3 ≤ length bs → getD bs 0 0 ≡ 2 → 1 ≤ getD bs 1 0 → getD bs 1 0 ≤ 10
-    → 1 ≤ length (rest 3 bs) → 1 ≤ getD (rest 3 bs) 0 0 → getD (rest 3 bs) 0 0 ≤ 4
+pub settings-step : (bs : List ℕ) → 3 ≤ length bs → brokenSettings (getD bs 0 0) (getD bs 1 0) ≡ None
+    → 1 ≤ length (rest 3 bs) → brokenAntennas (getD (rest 3 bs) 0 0) ≡ None
     → cut bs ≡ cutVectors (length bs) (getD bs 1 0) (getD bs 2 0) (getD (rest 3 bs) 0 0) (rest 1 (rest 3 bs))
 settings-step bs = simp take-rest (go-settings bs)
 
@@ -45,13 +47,16 @@ pub records-step : (total mode shift antennas n : ℕ) (bs : List ℕ) → 2 ≤
     → cutVectors total mode shift antennas bs ≡ cutPriors total mode shift antennas n (take (recordsSize mode antennas n) (rest 2 bs)) (drop (recordsSize mode antennas n) (rest 2 bs))
 records-step total mode shift antennas n bs = simp take-rest (go-records total mode shift antennas n bs)
 
-pub go-priors : (total mode shift antennas n k : ℕ) (records bs : List ℕ) → 2 ≤ length bs → k ≡ counted bs → priorsAllowed mode n k ≡ true → length (drop 2 bs) ≡ 2 * k
+pub go-priors : (total mode shift antennas n k : ℕ) (records bs : List ℕ) → 2 ≤ length bs → k ≡ counted bs → 2 * k ≤ length (drop 2 bs)
+    → brokenPriors mode n (length records) k (length (drop 2 bs)) ≡ None
     → cutPriors total mode shift antennas n records bs ≡ Ok (record { mode = mode; shift = shift; antennas = antennas; count = n; records = records; priors = drop 2 bs })
-go-priors total mode shift antennas n k records [] l2 e allowed ends = absurd (omega arith)
-go-priors total mode shift antennas n k records (a ∷ []) l2 e allowed ends = absurd (omega arith)
-go-priors total mode shift antennas n k records (a ∷ b ∷ bs) l2 e allowed ends =
-    rw (← e, le-leb (2 * k) (length bs) (omega arith), allowed, eq-eqb (length bs) (2 * k) ends)
+go-priors total mode shift antennas n k records [] l2 e fits rule = absurd (omega arith)
+go-priors total mode shift antennas n k records (a ∷ []) l2 e fits rule = absurd (omega arith)
+go-priors total mode shift antennas n k records (a ∷ b ∷ bs) l2 e fits rule =
+    let l : Layout = record { mode = mode; shift = shift; antennas = antennas; count = n; records = records; priors = bs } in
+    rw (← e, le-leb (2 * k) (length bs) fits) (ap (λ (o : Option ℕ). unlessBroken o (Ok l)) rule)
 
-pub priors-step : (total mode shift antennas n k : ℕ) (records bs : List ℕ) → 2 ≤ length bs → k ≡ counted bs → priorsAllowed mode n k ≡ true → length (rest 2 bs) ≡ 2 * k
+pub priors-step : (total mode shift antennas n k : ℕ) (records bs : List ℕ) → 2 ≤ length bs → k ≡ counted bs → 2 * k ≤ length (rest 2 bs)
+    → brokenPriors mode n (length records) k (length (rest 2 bs)) ≡ None
     → cutPriors total mode shift antennas n records bs ≡ Ok (record { mode = mode; shift = shift; antennas = antennas; count = n; records = records; priors = rest 2 bs })
 priors-step total mode shift antennas n k records bs = simp take-rest (go-priors total mode shift antennas n k records bs)

@@ -14,17 +14,19 @@ use mir.Val.{SFits}
 use Rattle.std.proofs.shelf.Lists.{take-append-drop, length-append, length-take-le, length-drop, take-at, drop-at}
 use Rattle.std.proofs.shelf.Elements.{all-take, all-drop}
 use Rattle.std.proofs.shelf.Tests.{le-leb, eq-eqb, leb-true, eqb-true, eqb-false, cases-bool}
+use Rattle.std.specs.declared.option.Option.the-variants.{None}
 use Rattle.std.specs.declared.result.Result.{Result}
 use Rattle.std.specs.declared.result.Result.the-variants.{Ok, Err}
 use Rattle.std.specs.Joined.{joined}
 use Rattle.std.specs.shelf.Lists.{All}
 use Rattle.refusal.specs.declared.Refusal.{Refusal}
 use Rattle.burstfile.specs.Format.{Pair, Vector, Contents, word, signed, pair, vector, encode, PairShape, VectorShape, Shape, vectorSize, channelOf, symbolsOf, bitsOf}
-use Rattle.burstfile.specs.Reading.{Layout, Whole, laid, cut, cutSettings, cutAntennas, cutVectors, cutPriors, priorsAllowed, recordsSize, cutAt, brokenAt, signedOf, pairsOf, vectorOf, vectorsOf, signedsOf, contentsOf}
+use Rattle.burstfile.specs.Reading.{Layout, Whole, laid, cut, cutSettings, cutAntennas, cutVectors, cutPriors, brokenSettings, brokenAntennas, brokenPriors, priorsAllowed, recordsSize, cutAt, signedOf, pairsOf, vectorOf, vectorsOf, signedsOf, contentsOf}
 use Rattle.burstfile.specs.Theorem.{Bytes, Shaped, Cut-is-encoded, Encoded-is-cut}
 use Rattle.burstfile.specs.declared.view.File.{File}
 use Rattle.std.specs.Results.{Cases}
 use Rattle.std.specs.Vec.{made}
+use Rattle.burstfile.proofs.Options.{cond-none, refused, passed, ok-same, unbroken}
 use Rattle.burstfile.proofs.Cuts.{go-settings, go-records, go-priors}
 use Rattle.burstfile.proofs.Trips.{Byte, word-is, word-of, vectors-of, vectors-shaped, length-vectors-of, signeds-of, length-signeds-of, signeds-fit, vectors-is, length-vectors, signeds-is, length-signeds}
 
@@ -37,13 +39,35 @@ rule-allowed mode n k (inl e) = rw (eq-eqb k 0 e)
 rule-allowed mode n k (inr e) =
     elim (cases-bool (eqb k 0)) [ inl t ↦ rw t | inr f ↦ rw (f, eq-eqb k (symbolsOf mode n * bitsOf mode) e) ]
 
--- a test that was passed
-passed : {X : Type 0} (b : Bool) (x : Result X Refusal) (e : Refusal) (l : X) → cond b x (Err e) ≡ Ok l → (b ≡ true) × (x ≡ Ok l)
-passed true x e l h = (refl, h)
-passed false x e l h = let z : _≡_ {A = ℕ} 0 1 = cc in absurd (omega arith)
+-- the rules of each section's fields
 
-refused : {X : Type 0} (e : Refusal) (l : X) → _≡_ {A = Result X Refusal} (Err e) (Ok l) → ⊥
-refused e l h = let z : _≡_ {A = ℕ} 0 1 = cc in omega arith
+settings-hold : (magic mode : ℕ) → brokenSettings magic mode ≡ None → (magic ≡ 2) × (1 ≤ mode) × (mode ≤ 10)
+settings-hold magic mode e =
+    let p = cond-none (eqb magic 2) _ _ e in
+    let q = cond-none (leb 1 mode) _ _ (p .1) in
+    let r = cond-none (leb mode 10) _ _ (q .1) in
+    (eqb-true magic 2 (p .0), leb-true 1 mode (q .0), leb-true mode 10 (r .0))
+
+hold-settings : (mode : ℕ) → 1 ≤ mode → mode ≤ 10 → brokenSettings 2 mode ≡ None
+hold-settings mode low high = rw (le-leb 1 mode low, le-leb mode 10 high)
+
+antennas-hold : (antennas : ℕ) → brokenAntennas antennas ≡ None → (1 ≤ antennas) × (antennas ≤ 4)
+antennas-hold antennas e =
+    let p = cond-none (leb 1 antennas) _ _ e in
+    let q = cond-none (leb antennas 4) _ _ (p .1) in
+    (leb-true 1 antennas (p .0), leb-true antennas 4 (q .0))
+
+hold-antennas : (antennas : ℕ) → 1 ≤ antennas → antennas ≤ 4 → brokenAntennas antennas ≡ None
+hold-antennas antennas low high = rw (le-leb 1 antennas low, le-leb antennas 4 high)
+
+priors-hold : (mode n size k left : ℕ) → brokenPriors mode n size k left ≡ None → (priorsAllowed mode n k ≡ true) × (left ≡ 2 * k)
+priors-hold mode n size k left e =
+    let p = cond-none (priorsAllowed mode n k) _ _ e in
+    let q = cond-none (eqb left (2 * k)) _ _ (p .1) in
+    (p .0, eqb-true left (2 * k) (q .0))
+
+hold-priors : (mode n size k left : ℕ) → priorsAllowed mode n k ≡ true → left ≡ 2 * k → brokenPriors mode n size k left ≡ None
+hold-priors mode n size k left allowed ends = rw (allowed, eq-eqb left (2 * k) ends)
 
 -- encoded, then cut
 
@@ -66,7 +90,7 @@ module _ (c : Contents) (s : Shape c) where
 
   cut-settings : cut (encode c) ≡ cutVectors (length (encode c)) (c .mode) (c .shift) (c .antennas) body
   unfolding body tail
-  cut-settings = go-settings (encode c) (omega arith) refl (s .mode-low) (s .mode-high) (omega arith) (s .antennas-low) (s .antennas-high)
+  cut-settings = go-settings (encode c) (omega arith) (hold-settings (c .mode) (s .mode-low) (s .mode-high)) (omega arith) (hold-antennas (c .antennas) (s .antennas-low) (s .antennas-high))
 
   cut-records : cutVectors (length (encode c)) (c .mode) (c .shift) (c .antennas) body
       ≡ cutPriors (length (encode c)) (c .mode) (c .shift) (c .antennas) (length (c .vectors)) (joined vector (c .vectors)) tail
@@ -80,7 +104,8 @@ module _ (c : Contents) (s : Shape c) where
   unfolding tail layoutOf
   cut-priors =
       go-priors (length (encode c)) (c .mode) (c .shift) (c .antennas) (length (c .vectors)) (length (c .priors)) (joined vector (c .vectors)) tail (omega arith)
-      (sym (word-is (length (c .priors)))) (rule-allowed (c .mode) (length (c .vectors)) (length (c .priors)) (s .prior-rule)) (length-signeds (c .priors))
+      (sym (word-is (length (c .priors)))) (omega (arith, length-signeds (c .priors)))
+      (hold-priors (c .mode) (length (c .vectors)) _ (length (c .priors)) _ (rule-allowed (c .mode) (length (c .vectors)) (length (c .priors)) (s .prior-rule)) (length-signeds (c .priors)))
 
   same-contents : contentsOf (layoutOf c) ≡ c
   unfolding layoutOf
@@ -113,9 +138,6 @@ priors-made mode shift antennas n k records rest bs l all small is allowed len e
       fits = signeds-fit rest all;
     })
 
-ok-same : {X : Type 0} (x y : X) → _≡_ {A = Result X Refusal} (Ok x) (Ok y) → x ≡ y
-ok-same x y h = cc
-
 priors-cut : (total mode shift antennas n : ℕ) (records bs : List ℕ) (l : Layout) → All Byte bs
     → cutPriors total mode shift antennas n records bs ≡ Ok l → PriorsCut mode shift antennas n records bs l
 priors-cut total mode shift antennas n records [] l all h = absurd (refused (cutAt total) l h)
@@ -123,9 +145,9 @@ priors-cut total mode shift antennas n records (a ∷ []) l all h = absurd (refu
 priors-cut total mode shift antennas n records (a ∷ b ∷ bs) l (la, (lb, all)) h =
     let k = a * 256 + b in
     let p = passed (leb (2 * k) (length bs)) _ _ l h in
-    let q = passed (priorsAllowed mode n k) _ _ l (p .1) in
-    let r = passed (eqb (length bs) (2 * k)) _ _ l (q .1) in
-    priors-made mode shift antennas n k records bs (a ∷ b ∷ bs) l all (omega arith) (ap (λ (w : List ℕ). w ++ bs) (sym (word-of a b lb))) (q .0) (eqb-true (length bs) (2 * k) (r .0)) (ok-same _ l (r .1))
+    let q = unbroken (brokenPriors mode n (length records) k (length bs)) _ l (p .1) in
+    let r = priors-hold mode n (length records) k (length bs) (q .0) in
+    priors-made mode shift antennas n k records bs (a ∷ b ∷ bs) l all (omega arith) (ap (λ (w : List ℕ). w ++ bs) (sym (word-of a b lb))) (r .0) (r .1) (ok-same _ l (q .1))
 
 record VectorsCut (mode shift antennas : ℕ) (bs : List ℕ) (l : Layout) : Type 0 where
   mode-is : l .mode ≡ mode
@@ -196,20 +218,19 @@ antennas-cut : (total mode shift : ℕ) (bs : List ℕ) (l : Layout) → shift <
     → (2 ∷ mode ∷ shift ∷ bs ≡ encode (contentsOf l)) × Shape (contentsOf l)
 antennas-cut total mode shift [] l ls all ml mh h = absurd (refused (cutAt total) l h)
 antennas-cut total mode shift (d ∷ bs) l ls (ld, all) ml mh h =
-    let p = passed (leb 1 d) _ _ l h in
-    let q = passed (leb d 4) _ _ l (p .1) in
-    shaped mode shift d bs l ml mh ls (leb-true 1 d (p .0)) (leb-true d 4 (q .0)) (vectors-cut total mode shift d bs l all (q .1))
+    let p = unbroken (brokenAntennas d) _ l h in
+    let q = antennas-hold d (p .0) in
+    shaped mode shift d bs l ml mh ls (q .0) (q .1) (vectors-cut total mode shift d bs l all (p .1))
 
 pub cut-is-encoded : Cut-is-encoded
 cut-is-encoded [] l all h = absurd (refused (cutAt 0) l h)
 cut-is-encoded (a ∷ []) l all h = absurd (refused (cutAt 1) l h)
 cut-is-encoded (a ∷ b ∷ []) l all h = absurd (refused (cutAt 2) l h)
 cut-is-encoded (a ∷ b ∷ c ∷ bs) l (la, (lb, (lc, all))) h =
-    let p = passed (eqb a 2) _ _ l h in
-    let q = passed (leb 1 b) _ _ l (p .1) in
-    let r = passed (leb b 10) _ _ l (q .1) in
-    let e : a ≡ 2 = eqb-true a 2 (p .0) in
-    rw e (antennas-cut _ b c bs l lc all (leb-true 1 b (q .0)) (leb-true b 10 (r .0)) (r .1))
+    let p = unbroken (brokenSettings a b) _ l h in
+    let q = settings-hold a b (p .0) in
+    let e : a ≡ 2 = q .0 in
+    rw e (antennas-cut _ b c bs l lc all (q .1) (q .2) (p .1))
 
 -- the lengths of what is cut
 
@@ -220,10 +241,10 @@ priors-whole total mode shift antennas n records (a ∷ []) l len h = absurd (re
 priors-whole total mode shift antennas n records (a ∷ b ∷ bs) l len h =
     let k = a * 256 + b in
     let p = passed (leb (2 * k) (length bs)) _ _ l h in
-    let q = passed (priorsAllowed mode n k) _ _ l (p .1) in
-    let r = passed (eqb (length bs) (2 * k)) _ _ l (q .1) in
-    let ends : length bs ≡ 2 * k = eqb-true (length bs) (2 * k) (r .0) in
-    subst Whole (ok-same _ l (r .1))
+    let q = unbroken (brokenPriors mode n (length records) k (length bs)) _ l (p .1) in
+    let r = priors-hold mode n (length records) k (length bs) (q .0) in
+    let ends : length bs ≡ 2 * k = r .1 in
+    subst Whole (ok-same _ l (q .1))
     (record {
       records = len;
       vectors = length-vectors-of n (vectorSize antennas (channelOf mode antennas)) antennas records;
@@ -242,19 +263,14 @@ vectors-whole total mode shift antennas (a ∷ b ∷ bs) l h =
 antennas-whole : (total mode shift : ℕ) (bs : List ℕ) (l : Layout) → cutAntennas total mode shift bs ≡ Ok l → Whole l
 antennas-whole total mode shift [] l h = absurd (refused (cutAt total) l h)
 antennas-whole total mode shift (d ∷ bs) l h =
-    let p = passed (leb 1 d) _ _ l h in
-    let q = passed (leb d 4) _ _ l (p .1) in
-    vectors-whole total mode shift d bs l (q .1)
+    vectors-whole total mode shift d bs l (unbroken (brokenAntennas d) _ l h .1)
 
 pub cut-whole : (bs : List ℕ) (l : Layout) → cut bs ≡ Ok l → Whole l
 cut-whole [] l h = absurd (refused (cutAt 0) l h)
 cut-whole (a ∷ []) l h = absurd (refused (cutAt 1) l h)
 cut-whole (a ∷ b ∷ []) l h = absurd (refused (cutAt 2) l h)
 cut-whole (a ∷ b ∷ c ∷ bs) l h =
-    let p = passed (eqb a 2) _ _ l h in
-    let q = passed (leb 1 b) _ _ l (p .1) in
-    let r = passed (leb b 10) _ _ l (q .1) in
-    antennas-whole _ b c bs l (r .1)
+    antennas-whole _ b c bs l (unbroken (brokenSettings a b) _ l h .1)
 
 -- what an answer on the sections says of the file
 module _ (bs : List ℕ) where

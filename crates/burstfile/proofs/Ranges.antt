@@ -21,19 +21,8 @@ use Rattle.burstfile.specs.Format.{Pair, Vector, Contents, Shape, PairInRange,
 use Rattle.burstfile.specs.Reading.{Layout, cut, contentsOf}
 use Rattle.burstfile.specs.Values.{orElse, within, faultAt, numberedFault, pairsFault, limitOf, vectorFault, vectorsFault, priorsFault, valuesFault, judged, judgedCut, readSpec}
 use Rattle.burstfile.specs.Theorem.{Bytes, Written, Accepts-encodings}
+use Rattle.burstfile.proofs.Options.{some-none, or-none, cond-none}
 use Rattle.burstfile.proofs.Format.{cut-is-encoded, encoded-is-cut}
-
-module _ {X : Type 0} where
-  some-none : (x : X) → _≡_ {A = Option X} (Some x) None → ⊥
-  some-none x e = let z : _≡_ {A = ℕ} 0 1 = cc in omega arith
-
-  or-none : (a b : Option X) → orElse a b ≡ None → (a ≡ None) × (b ≡ None)
-  or-none None b e = (refl, e)
-  or-none (Some x) b e = absurd (some-none x e)
-
-  cond-none : (b : Bool) (o : Option X) (x : X) → cond b o (Some x) ≡ None → (b ≡ true) × (o ≡ None)
-  cond-none true o x e = (refl, e)
-  cond-none false o x e = absurd (some-none x e)
 
 number-none : (n : ℕ) (o : Option Refusal) → numberedFault n o ≡ None → o ≡ None
 number-none n None e = refl

@@ -8,6 +8,8 @@ use lib.IntN.{ℤ}
 use lib.ListN.{length, getD, take, drop}
 use mir.Syntax.{w16}
 use mir.Val.{toZ}
+use Rattle.std.specs.declared.option.Option.{Option}
+use Rattle.std.specs.declared.option.Option.the-variants.{Some, None}
 use Rattle.std.specs.declared.result.Result.{Result}
 use Rattle.std.specs.declared.result.Result.the-variants.{Ok, Err}
 use Rattle.refusal.specs.declared.Cause.the-variants.{Cut, Field}
@@ -33,11 +35,20 @@ cutAt n = record { cause = Cut; place = n }
 abbrev pub brokenAt : ℕ → Refusal
 brokenAt offset = record { cause = Field; place = offset }
 
+-- goes on where no field of a section breaks its rule; else the field at the offset is refused
+abbrev pub unlessBroken : Option ℕ → Result Layout Refusal → Result Layout Refusal
+unlessBroken None r = r
+unlessBroken (Some offset) r = Err (brokenAt offset)
+
+-- Each section goes on with the next; total is the file's length.
+
 -- may count vectors come with k a priori values
 abbrev pub priorsAllowed : ℕ → ℕ → ℕ → Bool
 priorsAllowed mode count k = cond (eqb k 0) true (eqb k (symbolsOf mode count * bitsOf mode))
 
--- Each section goes on with the next; total is the file's length.
+-- section 4, after size bytes of records: its count k, and the left bytes, which are k values and no more
+abbrev pub brokenPriors : ℕ → ℕ → ℕ → ℕ → ℕ → Option ℕ
+brokenPriors mode count size k left = cond (priorsAllowed mode count k) (cond (eqb left (2 * k)) None (Some (8 + size + 2 * k))) (Some (6 + size))
 
 -- section 4: its count, and two bytes a value; then the file ends
 abbrev pub cutPriors : ℕ → ℕ → ℕ → ℕ → ℕ → List ℕ → List ℕ → Result Layout Refusal
@@ -45,11 +56,8 @@ cutPriors total mode shift antennas count records [] = Err (cutAt total)
 cutPriors total mode shift antennas count records (x ∷ []) = Err (cutAt total)
 cutPriors total mode shift antennas count records (high ∷ low ∷ rest) =
     cond (leb (2 * (high * 256 + low)) (length rest))
-    (cond (priorsAllowed mode count (high * 256 + low))
-    (cond (eqb (length rest) (2 * (high * 256 + low)))
-    (Ok (record { mode = mode; shift = shift; antennas = antennas; count = count; records = records; priors = rest }))
-    (Err (brokenAt (8 + length records + 2 * (high * 256 + low)))))
-    (Err (brokenAt (6 + length records))))
+    (unlessBroken (brokenPriors mode count (length records) (high * 256 + low) (length rest))
+    (Ok (record { mode = mode; shift = shift; antennas = antennas; count = count; records = records; priors = rest })))
     (Err (cutAt total))
 
 abbrev pub recordsSize : ℕ → ℕ → ℕ → ℕ
@@ -67,20 +75,22 @@ cutVectors total mode shift antennas (high ∷ low ∷ rest) =
     (Err (cutAt total))
 
 -- section 2: 1 to 4 antennas
+abbrev pub brokenAntennas : ℕ → Option ℕ
+brokenAntennas antennas = cond (leb 1 antennas) (cond (leb antennas 4) None (Some 3)) (Some 3)
+
 abbrev pub cutAntennas : ℕ → ℕ → ℕ → List ℕ → Result Layout Refusal
 cutAntennas total mode shift [] = Err (cutAt total)
-cutAntennas total mode shift (antennas ∷ rest) =
-    cond (leb 1 antennas) (cond (leb antennas 4) (cutVectors total mode shift antennas rest) (Err (brokenAt 3))) (Err (brokenAt 3))
+cutAntennas total mode shift (antennas ∷ rest) = unlessBroken (brokenAntennas antennas) (cutVectors total mode shift antennas rest)
 
 -- section 1: byte 2, mode 1 to 10, shift
+abbrev pub brokenSettings : ℕ → ℕ → Option ℕ
+brokenSettings magic mode = cond (eqb magic 2) (cond (leb 1 mode) (cond (leb mode 10) None (Some 1)) (Some 1)) (Some 0)
+
 abbrev pub cutSettings : ℕ → List ℕ → Result Layout Refusal
 cutSettings total [] = Err (cutAt total)
 cutSettings total (a ∷ []) = Err (cutAt total)
 cutSettings total (a ∷ b ∷ []) = Err (cutAt total)
-cutSettings total (magic ∷ mode ∷ shift ∷ rest) =
-    cond (eqb magic 2)
-    (cond (leb 1 mode) (cond (leb mode 10) (cutAntennas total mode shift rest) (Err (brokenAt 1))) (Err (brokenAt 1)))
-    (Err (brokenAt 0))
+cutSettings total (magic ∷ mode ∷ shift ∷ rest) = unlessBroken (brokenSettings magic mode) (cutAntennas total mode shift rest)
 
 -- the sections of a file
 abbrev pub cut : List ℕ → Result Layout Refusal

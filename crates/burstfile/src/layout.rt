@@ -5,47 +5,18 @@ ghost use lib.ListN.{length};
 ghost use Rattle.std.specs.Results.{Cases};
 ghost use Rattle.std.specs.Vec.{made};
 ghost use Rattle.std.specs.declared.result.Result.the-variants.{Ok, Err};
-ghost use Rattle.burstfile.specs.Format.{Contents, symbolsOf, bitsOf};
-ghost use Rattle.burstfile.specs.Reading.{Whole, cut, cutVectors, cutPriors, laid, contentsOf, priorsAllowed};
+ghost use Rattle.burstfile.specs.Format.{Contents};
+ghost use Rattle.burstfile.specs.Reading.{Whole, cut, cutVectors, cutPriors, laid, contentsOf};
 ghost use Rattle.burstfile.specs.Theorem.{Shaped};
 use crate::records::record_size;
+use crate::rules::broken_antennas;
+use crate::rules::broken_priors;
+use crate::rules::broken_settings;
 use crate::theorem::are_bytes;
 use crate::view::File;
 use crate::view::Settings;
 use refusal::Cause;
 use refusal::Refusal;
-
-/// The bits of a symbol.
-fn bits(mode: u8) -> u8
-    ensures { λ r. ⌜ r ≡ bitsOf mode ⌝ }
-{
-    match mode {
-        1 => 2,
-        2 => 3,
-        5 => 6,
-        6 => 8,
-        8 => 6,
-        10 => 6,
-        _ => 4,
-    }
-}
-
-/// How many symbols the records are: a differential mode spends the first on the reference.
-fn symbols(mode: u8, count: u16) -> u16
-    ensures { λ r. ⌜ r ≡ symbolsOf mode count ⌝ }
-{
-    if mode <= 8 {
-        count
-    } else {
-        count.saturating_sub(1)
-    }
-}
-
-fn priors_allowed(mode: u8, count: u16, priors: u16) -> bool
-    ensures { λ r. ⌜ r ≡ priorsAllowed mode count priors ⌝ }
-{
-    priors == 0 || priors as u32 == symbols(mode, count) as u32 * bits(mode) as u32
-}
 
 /// Sections 1 and 2, and the rest.
 fn take_settings(bytes: &[u8]) -> Result<(Settings, &[u8]), Refusal>
@@ -54,17 +25,14 @@ fn take_settings(bytes: &[u8]) -> Result<(Settings, &[u8]), Refusal>
     let [magic, mode, shift, rest @ ..] = bytes else {
         return Err(Cause::Cut.at(bytes.len()));
     };
-    if *magic != 2 {
-        return Err(Cause::Field.at(0));
-    }
-    if *mode < 1 || *mode > 10 {
-        return Err(Cause::Field.at(1));
+    if let Some(offset) = broken_settings(*magic, *mode) {
+        return Err(Cause::Field.at(offset));
     }
     let [antennas, rest @ ..] = rest else {
         return Err(Cause::Cut.at(bytes.len()));
     };
-    if *antennas < 1 || *antennas > 4 {
-        return Err(Cause::Field.at(3));
+    if let Some(offset) = broken_antennas(*antennas) {
+        return Err(Cause::Field.at(offset));
     }
     let settings = Settings {
         mode: *mode,
@@ -107,15 +75,11 @@ fn take_priors<'a>(
         return Err(Cause::Cut.at(total));
     };
     let priors = u16::from_be_bytes([*high, *low]);
-    let end = 2 * priors as usize;
-    if rest.len() < end {
+    if rest.len() < 2 * priors as usize {
         return Err(Cause::Cut.at(total));
     }
-    if !priors_allowed(settings.mode, count, priors) {
-        return Err(Cause::Field.at(6 + records.len()));
-    }
-    if rest.len() != end {
-        return Err(Cause::Field.at(8 + records.len() + end));
+    if let Some(offset) = broken_priors(settings.mode, count, records.len(), priors, rest.len()) {
+        return Err(Cause::Field.at(offset));
     }
     Ok(File {
         settings,

@@ -5,6 +5,7 @@ mod layout;
 mod numbers;
 mod records;
 mod refused;
+mod rules;
 mod theorem;
 mod view;
 
