@@ -23,13 +23,13 @@ module _ {X : Type 0} where
   drop-past (suc m) [] ws h = absurd (not-suc-le-zero h)
   drop-past (suc m) (z ∷ zs) ws h = drop-past m zs ws (omega arith)
 
-  take-whole : (zs ws : List X) → take (length zs) (zs ++ ws) ≡ zs
-  take-whole [] ws = refl
-  take-whole (z ∷ zs) ws = ap (λ r. z ∷ r) (take-whole zs ws)
+  pub take-front : (zs ws : List X) → take (length zs) (zs ++ ws) ≡ zs
+  take-front [] ws = refl
+  take-front (z ∷ zs) ws = ap (λ r. z ∷ r) (take-front zs ws)
 
-  drop-whole : (zs ws : List X) → drop (length zs) (zs ++ ws) ≡ ws
-  drop-whole [] ws = refl
-  drop-whole (z ∷ zs) ws = drop-whole zs ws
+  pub drop-front : (zs ws : List X) → drop (length zs) (zs ++ ws) ≡ ws
+  drop-front [] ws = refl
+  drop-front (z ∷ zs) ws = drop-front zs ws
 
   -- writing past the first m leaves them
   pub over-past : (m a : ℕ) (zs xs : List X) → m ≤ length xs → (take m (over (m + a) zs xs) ≡ take m xs) × (drop m (over (m + a) zs xs) ≡ over a zs (drop m xs))
@@ -46,7 +46,7 @@ module _ {X : Type 0} where
       )
 
   over-first : (zs xs : List X) → (take (length zs) (over 0 zs xs) ≡ zs) × (drop (length zs) (over 0 zs xs) ≡ drop (length zs) xs)
-  over-first zs xs = (take-whole zs _, drop-whole zs _ ∙ ap (λ n. drop n xs) (zero-add (length zs)))
+  over-first zs xs = (take-front zs _, drop-front zs _ ∙ ap (λ n. drop n xs) (zero-add (length zs)))
 
 module _ (m : ℕ) where
   pub length-paired : (rs : List Record) (zs : List ℤ) → length (paired m rs zs) ≡ length rs
