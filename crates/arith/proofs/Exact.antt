@@ -40,6 +40,7 @@ number w {k} {n} h l = record { same = toZ-pos w k (below k n (2 ^ hbits w) h (l
   where
     below : (k n m : ℕ) → k ≤ n → n < m → k < m
     below k n m h l = omega arith
+
     small : (k n : ℕ) → k ≤ n → natAbs (pos k) ≤ n
     small k n h = omega (arith, ints)
 
@@ -120,7 +121,6 @@ keep w k l = know (kept w (k .is) l)
 
 infixl 6 _⊕_ _⊖_
 infixl 7 _⊗_
-
 -- the machine's product, sum and difference at 64 bits of what it keeps
 abbrev pub _⊗_ : Known → Known → Known
 j ⊗ k = know (times (j .is) (k .is))

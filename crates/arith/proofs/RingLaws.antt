@@ -56,6 +56,7 @@ add-term-is r c m (term d n ∷ ts) = go (add-term-is r c m ts) (sameVars m n) r
   where
     three : (p q s : ℤ) → q +ℤ p +ℤ s ≡ p +ℤ (q +ℤ s)
     three p q s = omega (arith, ints)
+
     go : total r (addTerm c m ts) ≡ c *ℤ powers r m +ℤ total r ts → (b : Bool) → sameVars m n ≡ b → total r (cond b (term (d +ℤ c) n ∷ ts) (term d n ∷ addTerm c m ts)) ≡ c *ℤ powers r m +ℤ (d *ℤ powers r n +ℤ total r ts)
     go ih true e = ap (λ t. t +ℤ total r ts) (+ℤ-*ℤ d c (powers r n)) ∙ three (c *ℤ powers r n) (d *ℤ powers r n) (total r ts) ∙ ap (λ (l : List ℕ). c *ℤ powers r l +ℤ (d *ℤ powers r n +ℤ total r ts)) (sym (same-vars m n e))
     go ih false e = ap (λ t. d *ℤ powers r n +ℤ t) ih ∙ swap+ (d *ℤ powers r n) (c *ℤ powers r m) (total r ts)

@@ -9,7 +9,6 @@ use lib.ListN.{getD}
 
 infixl 6 _:+_ _:-_
 infixl 7 _:*_
-
 -- an expression: a variable by its place, a constant, a sum, a difference, a product, a negation
 pub data Poly : Type 0 where
   var : ℕ → Poly

@@ -3,6 +3,7 @@
 mod burst;
 mod closed;
 mod open;
+mod shape;
 mod soft;
 
 pub use burst::Burst;
