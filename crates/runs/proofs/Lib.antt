@@ -1,0 +1,5 @@
+pub mod Placed
+pub mod Verdicts
+pub mod Turns
+pub mod Sheets
+pub mod Near

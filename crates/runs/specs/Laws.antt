@@ -1,0 +1,7 @@
+-- The laws over whole runs of a burst: an opening, any placings, one closing, then any calls, accepted or refused, up to any point.
+use Rattle.runs.specs.Turns.{Turns-balance}
+use Rattle.runs.specs.Near.{Runs-near}
+
+pub record Laws : Type 0 where
+  pub near : Runs-near
+  pub balance : Turns-balance
