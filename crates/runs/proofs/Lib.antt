@@ -3,3 +3,5 @@ pub mod Verdicts
 pub mod Turns
 pub mod Sheets
 pub mod Near
+pub mod Permute
+pub mod Moved

@@ -191,7 +191,7 @@ refused-near s t (read i k) w = omega arith
 refused-near s t (decide n) w = tt
 
 kept : {s t : State Symbol} {c d : Call} (v : Verdict) → Alikes s t → SameCall c d → verdict (outline s) c ≡ v → verdict (outline t) d ≡ v → Kept s t c d v v
-kept (Ok tt) a l e f = kept-accepted a l e f
+kept (Ok u) a l e f = kept-accepted a l e f
 kept {s} {t} {c} (Err w) a l e f = (a, refl, refused-near s t c w)
 
 -- the verdicts agree, so each step keeps the two alike

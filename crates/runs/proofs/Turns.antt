@@ -30,9 +30,9 @@ record One (v : Verdict) (s : State Symbol) (c : Call) : Type 0 where
 one : (v : Verdict) (s : State Symbol) (c : Call) → verdict (outline s) c ≡ v → One v s c
 one (Err w) s c e = record { balance = omega arith; flag = refl; number = refl; given = omega arith; turns = refl }
 one (Ok a) s (tell i zs) e = record { balance = omega arith; flag = refl; number = refl; given = omega arith; turns = refl }
-one (Ok tt) s (taking n) e = record { balance = ap (λ b. cond b 1 0 + 1) (taking-is (outline s) n e); flag = refl; number = refl; given = refl; turns = refl }
-one (Ok tt) s (answer b n zs) e = record { balance = ap (λ b. cond b 1 0 + 0) (answer-is (outline s) b n zs e .0); flag = refl; number = refl; given = omega arith; turns = refl }
-one (Ok tt) s (withdraw b n) e = record { balance = ap (λ b. cond b 1 0 + 0) (withdraw-is (outline s) b n e); flag = refl; number = refl; given = omega arith; turns = refl }
+one (Ok u) s (taking n) e = record { balance = ap (λ b. cond b 1 0 + 1) (taking-is (outline s) n e); flag = refl; number = refl; given = refl; turns = refl }
+one (Ok u) s (answer b n zs) e = record { balance = ap (λ b. cond b 1 0 + 0) (answer-is (outline s) b n zs e .0); flag = refl; number = refl; given = omega arith; turns = refl }
+one (Ok u) s (withdraw b n) e = record { balance = ap (λ b. cond b 1 0 + 0) (withdraw-is (outline s) b n e); flag = refl; number = refl; given = omega arith; turns = refl }
 one (Ok a) s (erase i) e = record { balance = omega arith; flag = refl; number = refl; given = omega arith; turns = refl }
 one (Ok a) s (read i k) e = record { balance = omega arith; flag = refl; number = refl; given = omega arith; turns = refl }
 one (Ok a) s (decide n) e = record { balance = omega arith; flag = refl; number = refl; given = omega arith; turns = refl }

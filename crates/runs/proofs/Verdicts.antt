@@ -48,6 +48,9 @@ module _ (o : Outline) where
   pub withdraw-is : (b n : ℕ) → verdict o (withdraw b n) ≡ accepted → o .out ≡ true
   withdraw-is b n e = ours-is b n (passed (ours o b n) Foreign 0 accepted e .0)
 
+  pub erase-is : (i : ℕ) → verdict o (erase i) ≡ accepted → (1 ≤ i) × (i ≤ o .count)
+  erase-is i e = up-to (o .count) i (passed (upTo (o .count) i) NoSymbol 0 (need (not (o .out)) Out 0 accepted) e .0)
+
   pub read-is : (i k : ℕ) → verdict o (read i k) ≡ accepted → (1 ≤ i) × (i ≤ o .count) × (1 ≤ k) × (k ≤ o .m)
   read-is i k e =
       let a = passed (upTo (o .count) i) NoSymbol 0 (need (upTo (o .m) k) Position 0 accepted) e in

@@ -1,4 +1,5 @@
 pub mod Runs
 pub mod Turns
 pub mod Near
+pub mod Moved
 pub mod Laws

@@ -1,6 +1,7 @@
 use Rattle.runs.proofs.laws_stand.Needs as need
 use Rattle.runs.proofs.Turns.{turns-balance}
 use Rattle.runs.proofs.Near.{runs-near}
+use Rattle.runs.proofs.Moved.{runs-moved}
 
 pub returns : need.returns
-returns c = record { near = runs-near; balance = turns-balance }
+returns c = record { near = runs-near; moved = runs-moved; balance = turns-balance }
