@@ -5,3 +5,4 @@ pub mod Sheets
 pub mod Near
 pub mod Permute
 pub mod Moved
+pub mod Exhausted
