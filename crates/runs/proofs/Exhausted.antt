@@ -1,28 +1,28 @@
 -- What stands at each symbol of a burst is what the calls before say.
 use mathlib.Core.Path.{_≡_, refl, sym, ap, ap₂, _∙_, subst}
 use mathlib.Core.Bool.{Bool, true, false, cond}
-use mathlib.Core.List.{List, [], _∷_, _++_, map}
+use mathlib.Core.List.{List, [], _∷_}
 use Prim.Native.Nat.{ℕ, zero, suc, _+_, _*_, _-_, _≤_, _<_}
 use native.Mathlib.Nat.{suc-mul, zero-mul}
 use native.Mathlib.Omega.{arith}
 use lib.Dec.{eqb}
-use lib.IntN.{ℤ, pos, _+ℤ_}
+use lib.IntN.{ℤ, pos}
 use lib.ListN.{length, getD, take, drop, replicate, length-append}
 use Rattle.std.specs.declared.result.Result.the-variants.{Ok, Err}
 use Rattle.std.specs.shelf.Lists.{joined}
 use Rattle.std.proofs.shelf.Counted.{length-map-counting}
 use Rattle.std.proofs.shelf.Lists.{length-map, getD-map, drop-drop}
-use Rattle.std.proofs.shelf.Tests.{cond-both, eqb-true, eqb-false}
+use Rattle.std.proofs.shelf.Tests.{eqb-true, eqb-false}
 use Rattle.refusal.specs.declared.Refusal.{Refusal}
 use Rattle.constellation.specs.Meaning.{Meaning}
 use Rattle.metric.specs.Exhaustive.{Symbol}
-use Rattle.metric.specs.Value.{extrinsicValue, posteriorValue, hardValue}
+use Rattle.metric.specs.Value.{extrinsicValue, hardValue}
 use Rattle.protocol.specs.Verdicts.{Verdict, accepted}
 use Rattle.protocol.specs.Placings.{OpenState, opened}
 use Rattle.protocol.specs.Calls.{Placed, State, Call, tell, taking, answer, withdraw, erase, read, decide, outline, verdict, atSymbol, ofSymbol, told, spread, leaves, extrinsics, sheetOf, looked, decided, bitsOf}
 use Rattle.protocol.specs.Stands.{erasedSymbol}
 use Rattle.trace.specs.Trace.{run, final}
-use Rattle.runs.specs.Runs.{Reply, Refused, Event, outcome, says, reply, step, placedAll, start}
+use Rattle.runs.specs.Runs.{Refused, Event, outcome, says, reply, step, placedAll, start}
 use Rattle.runs.specs.Near.{at}
 use Rattle.runs.specs.Exhausted.{heard, granted, lately, noSymbol, stands, Exhausts, Values-exhaustive}
 use Rattle.runs.proofs.Placed.{chosen}

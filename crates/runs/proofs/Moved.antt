@@ -7,10 +7,9 @@ use native.Mathlib.Nat.{suc-mul}
 use native.Mathlib.Omega.{arith}
 use lib.IntN.{ℤ, pos, _+ℤ_}
 use lib.Dec.{eqb, leb}
-use lib.ListN.{length, getD, take, drop, replicate, length-take, length-drop}
+use lib.ListN.{length, getD, drop, replicate, length-take, length-drop}
 use Rattle.std.specs.declared.result.Result.the-variants.{Ok, Err}
 use Rattle.std.specs.shelf.Lists.{All, Each, leading}
-use Rattle.std.proofs.shelf.Elements.{all-map, all-from-getD}
 use Rattle.std.proofs.shelf.Lists.{length-map, length-replicate}
 use Rattle.std.proofs.shelf.Tests.{eqb-true, eq-eqb, le-leb, and-from}
 use Rattle.refusal.specs.declared.Cause.{Cause}
@@ -20,16 +19,16 @@ use Rattle.constellation.specs.Meaning.{Meaning, Lawful}
 use Rattle.constellation.specs.Ordered.{position, permutes, shuffled}
 use Rattle.constellation.proofs.OrderLaws.{Order, order-from}
 use Rattle.metric.specs.Exhaustive.{Symbol}
-use Rattle.metric.specs.Value.{extrinsicValue, hardValue}
+use Rattle.metric.specs.Value.{extrinsicValue}
 use Rattle.metric.specs.ValueLaws.{permute}
 use Rattle.metric.proofs.ValueLaws.{moved as value-moved}
 use Rattle.observation.specs.Observed.{symbolOf}
 use Rattle.protocol.specs.Verdicts.{Verdict, accepted, need, each, inside, upTo}
 use Rattle.protocol.specs.Placings.{OpenState, Placing, opened, placeVerdict, placeAfter}
-use Rattle.protocol.specs.Calls.{Placed, State, Call, tell, taking, answer, withdraw, erase, read, decide, Outline, outline, needed, ours, verdict, atSymbol, ofSymbol, closed, withSymbols, told, spread, after, leaves, looked, reading}
+use Rattle.protocol.specs.Calls.{Placed, State, Call, tell, taking, answer, withdraw, erase, read, decide, Outline, outline, needed, ours, verdict, atSymbol, ofSymbol, closed, withSymbols, told, spread, after, leaves, looked}
 use Rattle.protocol.specs.Stands.{erasedSymbol}
-use Rattle.trace.specs.Trace.{run, final}
-use Rattle.runs.specs.Runs.{Reply, Refused, outcome, reply, says, step, place, placedAll, placeVerdicts, start}
+use Rattle.trace.specs.Trace.{run}
+use Rattle.runs.specs.Runs.{Refused, outcome, reply, says, step, placedAll, placeVerdicts, start}
 use Rattle.runs.specs.Moved.{movedSheet, moved, SameOutcome, YieldsMoved, Moved, Runs-moved}
 use Rattle.runs.proofs.Placed.{chosen}
 use Rattle.runs.proofs.Verdicts.{tell-is, answer-is, read-is}

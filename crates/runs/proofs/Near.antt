@@ -1,13 +1,13 @@
 -- Two bursts with the same calls accept alike and have near extrinsic values.
 use mathlib.Core.Path.{_≡_, refl, sym, ap, ap₂, _∙_, subst}
-use mathlib.Core.Bool.{Bool, true, false, cond}
-use mathlib.Core.Logic.{_⊎_, inl, inr}
+use mathlib.Core.Bool.{cond}
+use mathlib.Core.Logic.{inl, inr}
 use mathlib.Core.List.{List, [], _∷_, map}
-use Prim.Native.Nat.{ℕ, zero, suc, _+_, _*_, _-_, _≤_, _<_}
+use Prim.Native.Nat.{ℕ, zero, suc, _+_, _*_, _-_, _≤_}
 use native.Mathlib.Nat.{suc-mul}
 use native.Mathlib.Omega.{arith}
 use lib.IntN.{ℤ, pos}
-use lib.ListN.{length, getD, take, drop, replicate, length-take, length-drop}
+use lib.ListN.{length, drop, replicate, length-take, length-drop}
 use Rattle.std.specs.declared.result.Result.the-variants.{Ok, Err}
 use Rattle.std.specs.shelf.Lists.{Each, leading}
 use Rattle.std.proofs.shelf.Elements.{length-each}
@@ -22,7 +22,7 @@ use Rattle.protocol.specs.Verdicts.{Verdict, accepted, inside}
 use Rattle.protocol.specs.Placings.{opened}
 use Rattle.protocol.specs.Calls.{Placed, State, Call, tell, taking, answer, withdraw, erase, read, decide, outline, verdict, atSymbol, ofSymbol, told, spread, leaves, sheetOf, looked, reading}
 use Rattle.protocol.specs.Stands.{erasedSymbol}
-use Rattle.trace.specs.Trace.{Moment, moment}
+use Rattle.trace.specs.Trace.{moment}
 use Rattle.trace.proofs.Trace.{side-by-side}
 use Rattle.runs.specs.Runs.{Refused, outcome, says, step, placedAll, start}
 use Rattle.runs.specs.Near.{at, Alike, SameCall, sameTell, sameTaking, sameAnswer, sameWithdraw, sameErase, sameRead, sameDecide, YieldsNear, Near, Runs-near}

@@ -1,6 +1,6 @@
 -- What another order of the positions keeps.
 use mathlib.Core.Path.{_≡_, refl, sym, ap, ap₂, _∙_, subst}
-use mathlib.Core.Bool.{Bool, true, false, _&&_, cond}
+use mathlib.Core.Bool.{Bool, true, false, cond}
 use mathlib.Core.List.{List, [], _∷_, _++_, map}
 use Prim.Native.Nat.{ℕ, zero, suc, _+_, _*_, _-_, _≤_, _<_}
 use native.Mathlib.Nat.{suc-mul, zero-mul}
@@ -8,11 +8,9 @@ use native.Mathlib.Omega.{arith}
 use lib.IntN.{ℤ, pos}
 use lib.Dec.{eqb, leb}
 use lib.ListN.{length, getD, take, drop, replicate, length-take, length-drop, length-append}
-use Rattle.std.specs.Orderings.{Decides}
 use Rattle.std.specs.shelf.Lists.{All, leading}
 use Rattle.std.proofs.shelf.Elements.{all-map, all-weaker, all-getD, all-from-getD, all-append, all-take, all-drop}
 use Rattle.std.proofs.shelf.Lists.{length-map, getD-map, length-replicate, getD-replicate, ext-getD, take-append-drop, take-at, drop-at, nil-from-length}
-use Rattle.std.proofs.shelf.Sums.{leading-le-length}
 use Rattle.std.proofs.shelf.Tests.{eqb-true, eqb-false, eq-eqb, ne-eqb, le-leb, and-from}
 use Rattle.constellation.specs.Ordered.{position}
 use Rattle.constellation.proofs.OrderLaws.{Order}

@@ -4,7 +4,7 @@ use mathlib.Core.List.{List, [], _∷_}
 use Prim.Native.Nat.{ℕ, zero, suc, _+_, _*_, _-_, _≤_, _<_}
 use native.Mathlib.Nat.{suc-mul, zero-mul, zero-add}
 use native.Mathlib.Omega.{arith}
-use lib.IntN.{ℤ, pos}
+use lib.IntN.{pos}
 use lib.ListN.{length, getD}
 use Rattle.std.specs.shelf.Lists.{joined}
 use Rattle.std.proofs.shelf.Lists.{getD-append-left, getD-append-add}
@@ -12,7 +12,7 @@ use Rattle.std.proofs.shelf.Counted.{length-map-counting, getD-map-counting}
 use Rattle.metric.specs.Exhaustive.{Symbol}
 use Rattle.metric.specs.Value.{extrinsicValue, hardValue}
 use Rattle.protocol.specs.Verdicts.{accepted}
-use Rattle.protocol.specs.Calls.{Placed, State, Call, tell, taking, answer, withdraw, erase, read, decide, ofSymbol, extrinsics, sheetOf, looked, decided, bitsOf}
+use Rattle.protocol.specs.Calls.{State, Call, tell, taking, answer, withdraw, erase, read, decide, ofSymbol, extrinsics, sheetOf, decided, bitsOf}
 use Rattle.runs.specs.Runs.{outcome, reply}
 use Rattle.runs.specs.Near.{at}
 

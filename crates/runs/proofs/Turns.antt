@@ -1,20 +1,19 @@
 -- Takings, answers and withdrawals balance, from any state: its own turn counts as one taken.
 use mathlib.Core.Path.{_≡_, refl, sym, ap, ap₂, _∙_}
-use mathlib.Core.Bool.{Bool, true, false, cond}
+use mathlib.Core.Bool.{cond}
 use mathlib.Core.List.{List, [], _∷_, _++_, map}
 use Prim.Native.Nat.{ℕ, zero, suc, _+_}
 use native.Mathlib.Omega.{arith}
-use lib.IntN.{ℤ}
 use Rattle.std.specs.Iters.{counting}
 use Rattle.std.specs.shelf.Lists.{joined}
 use Rattle.std.specs.declared.result.Result.the-variants.{Ok, Err}
 use Rattle.metric.specs.Exhaustive.{Symbol}
-use Rattle.protocol.specs.Verdicts.{Verdict, accepted}
+use Rattle.protocol.specs.Verdicts.{Verdict}
 use Rattle.protocol.specs.Calls.{State, Call, tell, taking, answer, withdraw, erase, read, decide, outline, verdict, leaves}
 use Rattle.protocol.specs.Stands.{erasedSymbol}
-use Rattle.trace.specs.Trace.{Moment, run, final}
-use Rattle.runs.specs.Runs.{Reply, Done, Sheet, Values, Bits, Refused, Event, says, step, start}
-use Rattle.runs.specs.Turns.{Deed, takes, answers, withdraws, none, asked, did, deed, taken, answered, withdrawn, total, turned, outFrom, turnOf, Balanced, Turns-balance}
+use Rattle.trace.specs.Trace.{run, final}
+use Rattle.runs.specs.Runs.{says, step, start}
+use Rattle.runs.specs.Turns.{none, asked, did, taken, answered, withdrawn, total, turned, outFrom, turnOf, Turns-balance}
 use Rattle.runs.proofs.Placed.{chosen}
 use Rattle.runs.proofs.Verdicts.{taking-is, answer-is, withdraw-is}
 

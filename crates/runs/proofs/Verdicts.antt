@@ -1,18 +1,16 @@
 -- What an accepting verdict says.
 use mathlib.Core.Path.{_≡_, refl}
-use mathlib.Core.Bool.{Bool, true, false, not, _&&_}
+use mathlib.Core.Bool.{Bool, true, false, not}
 use mathlib.Core.List.{List}
-use Prim.Native.Nat.{ℕ, _*_, _+_, _≤_}
+use Prim.Native.Nat.{ℕ, _*_, _≤_}
 use lib.IntN.{ℤ}
-use lib.Dec.{eqb, ltb, leb}
+use lib.Dec.{eqb, leb}
 use lib.ListN.{length}
-use Rattle.std.specs.declared.result.Result.the-variants.{Ok, Err}
-use Rattle.std.specs.shelf.Lists.{leading}
 use Rattle.std.proofs.shelf.Tests.{leb-true, eqb-true, and-parts, not-true}
 use Rattle.refusal.specs.declared.Cause.{Cause}
 use Rattle.refusal.specs.declared.Cause.the-variants.{Symbol as NoSymbol, Length, Range, Out, Foreign, Position}
 use Rattle.protocol.specs.Verdicts.{Verdict, accepted, need, each, inside, upTo}
-use Rattle.protocol.specs.Calls.{Call, tell, taking, answer, withdraw, erase, read, decide, Outline, needed, ours, verdict}
+use Rattle.protocol.specs.Calls.{tell, taking, answer, withdraw, erase, read, Outline, needed, ours, verdict}
 
 pub passed : (b : Bool) (c : Cause) (p : ℕ) (v : Verdict) → need b c p v ≡ accepted → (b ≡ true) × (v ≡ accepted)
 passed true c p v e = (refl, e)

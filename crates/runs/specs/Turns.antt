@@ -1,6 +1,6 @@
 -- The turns of a run: every turn that was taken is answered, withdrawn, or the one that is out.
 use mathlib.Core.Path.{_≡_}
-use mathlib.Core.Bool.{Bool, true, false, cond, _&&_}
+use mathlib.Core.Bool.{Bool, true, false, cond}
 use mathlib.Core.List.{List, [], _∷_, map}
 use Prim.Native.Nat.{ℕ, _+_}
 use Rattle.std.specs.Iters.{counting}
