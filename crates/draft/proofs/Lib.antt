@@ -1,2 +1,2 @@
 pub mod Fronts
-pub mod Verdicts
+pub mod Counts

@@ -64,6 +64,14 @@ impl Draft {
         self.len += 1;
     }
 
+    /// The samples of the reference, of which the first `antennas` are in use.
+    fn referred(&self) -> [Sample; 4]
+        ensures same { λ r. ⌜ r ≡ now (self .entry) .reference ⌝ }
+        ensures sound { λ r. ⌜ leading fine (take (now (self .entry) .antennas) r) ≡ length (take (now (self .entry) .antennas) r) ⌝ }
+    {
+        self.reference
+    }
+
     /// Keeps the vector as the reference.
     fn keep(&mut self, y: &[Sample])
         requires some { ⌜ 1 ≤ length (now y) ⌝ }
@@ -99,7 +107,7 @@ impl Draft {
             check_samples(y)?;
             check_weight(weight)?;
         } else {
-            let reference = self.reference;
+            let reference = self.referred();
             self.place(y, &reference[..self.antennas], weight)?;
         }
         self.keep(y);

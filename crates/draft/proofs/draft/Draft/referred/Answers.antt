@@ -1,0 +1,9 @@
+use mathlib.Core.Path.{refl, sym, _∙_}
+use Rattle.protocol.specs.Placings.{fine}
+use Rattle.draft.proofs.Fronts.{leading-take}
+use Rattle.draft.proofs.draft.Draft.referred.Needs as need
+
+pub returns : need.returns
+returns c =
+    let d = c .args .self .now in
+    record { same = refl; sound = leading-take fine (d .antennas) (d .reference) (d .tuned ∙ sym (d .four)) }
