@@ -15,16 +15,16 @@ use Rattle.metric.specs.Exhaustive.{Symbol}
 use Rattle.metric.specs.Value.{extrinsicValue}
 use Rattle.observation.specs.Observed.{held}
 use Rattle.protocol.specs.Verdicts.{Verdict, upTo}
-use Rattle.protocol.specs.Calls.{State, Call, taking, read, outline, verdict, leaves, sheetOf, looked, reading}
+use Rattle.protocol.specs.Calls.{State, Call, taking, read, decide, outline, verdict, leaves, sheetOf, looked, reading, bitsOf}
 use Rattle.protocol.specs.Stands.{image, Stands, erasedRecord}
-use Rattle.protocol.proofs.Images.{outline-image, sheet-image, reading-image}
+use Rattle.protocol.proofs.Images.{outline-image, sheet-image, bits-image, reading-image}
 use Rattle.detect.specs.Kept.{keptValue}
 use Rattle.detect.proofs.Linking.{kept-is}
 use Rattle.table.specs.Kept.{View, kept, outlined, issued, blank}
 use Rattle.table.specs.declared.turn.Turn.{Turn}
-use Rattle.burst.specs.Public.{Called, Taken, Read, written, turnOf, readOf}
+use Rattle.burst.specs.Public.{Called, Taken, Read, Decided, written, turnOf, readOf}
 use Rattle.burst.proofs.Lifting.{Whole, called, outline-is, passed}
-use Rattle.burst.proofs.Rows.{of-paired}
+use Rattle.soft.proofs.Rows.{of-paired}
 
 -- what a taking leaves of the table, by its verdict
 abbrev pub takeLeft : Verdict → View → View
@@ -82,6 +82,21 @@ module _ (M : Meaning) (L : Lawful M) (v : View) (W : Whole v) where
   pub taken-so : (xs ys : List ℤ) (r : Result Turn Refusal) (w : View) → Ok tt ≡ verdict (outlined (M .m) v) (taking (length xs)) → w ≡ issued v
       → r ≡ turnOf (Ok tt) (kept M v) → ys ≡ sheetOf keptValue (kept M v) → Taken (kept M v) xs r (kept M w) ys
   taken-so xs ys r w e f g h = taken xs ys r w (Ok tt) e f g h
+
+  bits-detected : (s : State Symbol) → Stands (kept M v) s → bitsOf keptValue (kept M v) ≡ bitsOf extrinsicValue s
+  bits-detected s S = ap (bitsOf keptValue) S ∙ bits-image held extrinsicValue keptValue s (same s S)
+
+  pub decided-by : (xs ys : List ℕ) (r : Verdict) → r ≡ verdict (outlined (M .m) v) (decide (length xs)) → ys ≡ written r (bitsOf keptValue (kept M v)) xs → Decided (kept M v) xs r ys
+  decided-by xs ys r e f =
+      let p : r ≡ verdict (outline (kept M v)) (decide (length xs)) = e ∙ ap (λ o. verdict o (decide (length xs))) (sym (outline-is M v W)) in
+      record {
+        reply = p;
+        wrote = f;
+        detected = λ s S. (
+          p ∙ ap (λ t. verdict (outline t) (decide (length xs))) S ∙ ap (λ o. verdict o (decide (length xs))) (outline-image held s),
+          f ∙ ap (λ z. written r z xs) (bits-detected s S),
+        );
+      }
 
 -- what looking at a table answers is what reading the burst does
 pub seen-at : (M : Meaning) (v : View) (W : Whole v) (i k : ℕ) (N : Meaning) (r : ℤ × ℤ × ℤ) → N ≡ M → Ok tt ≡ verdict (outlined (M .m) v) (read i k)

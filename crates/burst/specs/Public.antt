@@ -84,3 +84,9 @@ readOf (Err e) t = Err e
 pub record Read (now : State Record) (i k : ℕ) (r : Result (ℤ × ℤ × ℤ) Refusal) : Type 0 where
   pub reply : r ≡ readOf (verdict (outline now) (read i k)) (reading keptValue now i k)
   pub detected : (s : State Symbol) → Stands now s → r ≡ readOf (verdict (outline s) (read i k)) (reading extrinsicValue s i k)
+
+-- hard deciding
+pub record Decided (now : State Record) (bits : List ℕ) (r : Verdict) (bits′ : List ℕ) : Type 0 where
+  pub reply : r ≡ verdict (outline now) (decide (length bits))
+  pub wrote : bits′ ≡ written r (bitsOf keptValue now) bits
+  pub detected : (s : State Symbol) → Stands now s → (r ≡ verdict (outline s) (decide (length bits))) × (bits′ ≡ written r (bitsOf extrinsicValue s) bits)

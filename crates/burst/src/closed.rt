@@ -2,13 +2,14 @@
 
 ghost use mathlib.Core.Path.{_≡_};
 ghost use Rattle.protocol.specs.Calls.{tell as telling, withdraw as withdrawing, erase as erasing};
-ghost use Rattle.burst.specs.Public.{closedKept, Called, Taken, Answered, Read};
+ghost use Rattle.burst.specs.Public.{closedKept, Called, Taken, Answered, Read, Decided};
 use crate::burst::Burst;
-use crate::soft::fill;
-use crate::soft::look;
 use constellation::Constellation;
 use detect::chart::Chart;
 use refusal::Refusal;
+use soft::decide;
+use soft::fill;
+use soft::look;
 use table::Turn;
 
 impl<C: Constellation> Burst<C> {
@@ -64,5 +65,15 @@ impl<C: Constellation> Burst<C> {
         let chart = Chart::of(&self.c);
         self.table.may_read(chart.m, symbol, position)?;
         Ok(look(&chart, &self.table, symbol - 1, position))
+    }
+
+    /// Writes 1 where the posterior value is above 0, else 0, for every symbol and position, symbol by symbol.
+    pub fn hard_decide(&self, bits: &mut [u8]) -> Result<(), Refusal>
+        ensures { λ r. ⌜ Decided (closedKept (meaning (now (self .entry) .c)) (now (self .entry) .table)) (now (bits .entry)) r (now (bits .exit)) ⌝ }
+    {
+        let chart = Chart::of(&self.c);
+        self.table.may_decide(chart.m, bits.len())?;
+        decide(&chart, &self.table, bits);
+        Ok(())
     }
 }

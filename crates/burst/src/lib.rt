@@ -4,7 +4,6 @@ mod burst;
 mod closed;
 mod open;
 mod shape;
-mod soft;
 
 pub use burst::Burst;
 pub use burst::OpenBurst;

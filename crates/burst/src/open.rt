@@ -2,6 +2,7 @@
 
 ghost use mathlib.Core.Path.{_≡_};
 ghost use Rattle.protocol.specs.Placings.{coherent, differential};
+ghost use Rattle.runs.specs.Laws.{Laws};
 ghost use Rattle.burst.specs.Public.{Opened, openKept, closedKept, PlacedBy, ClosedBy};
 use crate::burst::Burst;
 use crate::burst::OpenBurst;
@@ -45,10 +46,11 @@ impl<C: Constellation> OpenBurst<C> {
         self.draft.place_differential(y, weight)
     }
 
-    /// Ends placing. All a priori values are 0, and no turn was given out.
+    /// Ends placing. All a priori values are 0, and no turn was given out. The laws over whole runs hold from here on, whatever is called.
     pub fn close(self) -> Burst<C>
         ensures closed { λ r. ⌜ ClosedBy (openKept (meaning (self .c)) (self .draft)) (closedKept (meaning (r .c)) (r .table)) ⌝ }
         ensures same { λ r. ⌜ r .c ≡ self .c ⌝ }
+        ensures laws { λ _. ⌜ Laws ⌝ }
     {
         let OpenBurst { c, draft } = self;
         let table = Table::new(draft.records, draft.len, draft.number, draft.shift);

@@ -6,3 +6,4 @@ pub mod Near
 pub mod Permute
 pub mod Moved
 pub mod Exhausted
+pub mod Laws

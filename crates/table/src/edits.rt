@@ -3,7 +3,7 @@
 ghost use mathlib.Core.Path.{_≡_};
 ghost use Prim.Native.Nat.{_+_, _*_, _≤_, _<_};
 ghost use lib.ListN.{length};
-ghost use Rattle.protocol.specs.Calls.{verdict, tell as telling, answer as answering, withdraw as withdrawing, erase as erasing, read as looking, taking, ours};
+ghost use Rattle.protocol.specs.Calls.{verdict, tell as telling, answer as answering, withdraw as withdrawing, erase as erasing, read as looking, decide as deciding, taking, ours};
 ghost use Rattle.table.specs.Kept.{over, view, fresh, outlined, tellLeft, answerLeft, withdrawLeft, eraseLeft, issued, returned};
 ghost use Rattle.std.specs.shelf.Lists.{leading};
 ghost use Rattle.observation.specs.Sizes.{measured as fits};
@@ -166,6 +166,18 @@ impl Table {
         }
         if position < 1 || position > m as usize {
             return Err(Cause::Position.at(0));
+        }
+        Ok(())
+    }
+
+    /// Whether hard deciding into memory of this length is accepted.
+    pub fn may_decide(&self, m: u8, length: usize) -> Result<(), Refusal>
+        requires { ⌜ m ≤ 8 ⌝ }
+        ensures { λ r. ⌜ r ≡ verdict (outlined m (view (now (self .entry)))) (deciding length) ⌝ }
+    {
+        let needed = self.len * m as usize;
+        if length != needed {
+            return Err(Cause::Length.at(needed));
         }
         Ok(())
     }

@@ -2,6 +2,7 @@ use mathlib.Core.Path.{refl}
 use Rattle.draft.specs.Drafted.{view}
 use Rattle.table.specs.Kept as tabled
 use Rattle.burst.proofs.Lifting.{closed-by}
+use Rattle.runs.proofs.Laws.{laws}
 use Rattle.burst.proofs.burst.OpenBurst.close.Needs as need
 
 pub returns : need.returns
@@ -12,4 +13,5 @@ returns g c =
       closed = closed-by (g .C·Constellation .meaning (b .c)) (view d) (d .records) (d .len) (tabled.view (c .new-table .result))
           (g .C·Constellation·met .lawful (b .c) .m-most) (d .few) (d .whole) refl (c .new-table .ensures);
       same = refl;
+      laws = laws;
     }

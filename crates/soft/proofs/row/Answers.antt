@@ -14,8 +14,8 @@ use Rattle.detect.specs.Charts.{chartMeaning}
 use Rattle.detect.specs.Kept.{keptValue}
 use Rattle.table.specs.Kept.{blank}
 use Rattle.table.proofs.Fronts.{front-at, front-take, front-drop}
-use Rattle.burst.proofs.Rows.{all-in-size, row-room, table-room}
-use Rattle.burst.proofs.soft.row.Needs as need
+use Rattle.soft.proofs.Rows.{all-in-size, row-room, table-room}
+use Rattle.soft.proofs.row.Needs as need
 
 pub part-priors-end : need.part-priors-end
 part-priors-end c =

@@ -12,8 +12,8 @@ use Rattle.std.proofs.shelf.Signed.{toZ-ofZ}
 use Rattle.detect.specs.Charts.{chartMeaning}
 use Rattle.detect.specs.Kept.{keptValue}
 use Rattle.table.specs.Kept.{blank}
-use Rattle.burst.proofs.Rows.{row-room, table-room, prior-at, value-at, triple}
-use Rattle.burst.proofs.soft.look.Needs as need
+use Rattle.soft.proofs.Rows.{row-room, table-room, prior-at, value-at, triple}
+use Rattle.soft.proofs.look.Needs as need
 
 pub index-table-i : need.index-table-i
 index-table-i c =

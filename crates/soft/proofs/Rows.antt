@@ -123,3 +123,26 @@ value-at f m k xs ys low high e =
 
 pub triple : {a b c d : ℤ} → a ≡ c → b ≡ d → _≡_ {A = ℤ × ℤ × ℤ} (a, b, a +ℤ b) (c, d, c +ℤ d)
 triple e f = ap₂ (λ x y. (x, y, x +ℤ y)) e f
+
+-- the same at the position after j
+pub prior-after : (m i j : ℕ) (zs : List ℤ) → j < m → getD zs (i * m + j) (pos 0) ≡ getD (take m (drop (i * m) zs)) (j + 1 - 1) (pos 0)
+prior-after m i j zs h =
+    let e : j ≡ j + 1 - 1 = omega arith in
+    ap (λ k. getD zs (i * m + k) (pos 0)) e ∙ prior-at m i (j + 1) zs (omega arith) (omega arith)
+
+pub value-after : (f : ℕ → ℤ) (m j : ℕ) (xs ys : List ℤ) → j < m → xs ≡ map f (counting 1 m) → getD (xs ++ ys) j (pos 0) ≡ f (j + 1)
+value-after f m j xs ys h e =
+    let d : j ≡ j + 1 - 1 = omega arith in
+    ap (λ k. getD (xs ++ ys) k (pos 0)) d ∙ value-at f m (j + 1) xs ys (omega arith) (omega arith) e
+
+-- a list that has f at every place is f's list
+pub all-of : (f : ℕ → ℕ) (m : ℕ) (xs : List ℕ) → length xs ≡ m → ((k : ℕ) → k < m → getD xs k 0 ≡ f (k + 1)) → xs ≡ map f (counting 1 m)
+all-of f m xs e h = fill-from f m 1 xs e (λ k l. h k l ∙ ap f (let d : k + 1 ≡ 1 + k = omega arith in d))
+  where
+    fill-from : (f : ℕ → ℕ) (m a : ℕ) (xs : List ℕ) → length xs ≡ m → ((k : ℕ) → k < m → getD xs k 0 ≡ f (a + k)) → xs ≡ map f (counting a m)
+    fill-from f zero a [] e h = refl
+    fill-from f zero a (x ∷ xs) e h = absurd (let w : ⊥ = omega arith in w)
+    fill-from f (suc m) a [] e h = absurd (let w : ⊥ = omega arith in w)
+    fill-from f (suc m) a (x ∷ xs) e h =
+        ap₂ (λ y ys. y ∷ ys) (h 0 (omega arith) ∙ ap f (let d : a + 0 ≡ a = omega arith in d))
+        (fill-from f m (a + 1) xs (omega arith) (λ k l. h (suc k) (omega arith) ∙ ap f (let d : a + suc k ≡ a + 1 + k = omega arith in d)))
