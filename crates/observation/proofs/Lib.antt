@@ -1,2 +1,2 @@
-pub mod Energies
+pub mod Sums
 pub mod Antennas
