@@ -61,4 +61,5 @@ returns c =
       im = keep w32 (imaginary (c .args .before .«z_im») (c .args .y) (c .args .h) (c .pre .0 .im) (c .pre .1) (c .pre .2) e) tt .is .same;
       y-energy = ap (λ (t : ℕ × ℕ). c .args .before .«y_energy» + t .0) (c .energies-y-energy .ensures);
       h-energy = ap (λ (t : ℕ × ℕ). c .args .before .«h_energy» + t .1) (c .energies-y-energy .ensures);
-      weight = refl }
+      weight = refl;
+    }
