@@ -1,11 +1,12 @@
 //! What is kept of a symbol: from its received and reference vectors, the few numbers that detection needs.
 
 ghost use mathlib.Core.Path.{_≡_};
+ghost use mathlib.Core.List.{[]};
 ghost use Prim.Native.Nat.{_≤_};
 ghost use lib.ListN.{length};
 ghost use Rattle.std.specs.shelf.Lists.{All};
 ghost use Rattle.observation.specs.Observed.{Ranged, Measured, held, symbolOf};
-ghost use Rattle.observation.specs.Joining.{energyOf, productOf, Conjugate, Room, Joined};
+ghost use Rattle.observation.specs.Joining.{energyOf, productOf, Conjugate, Summed, Room, Joined};
 
 /// A complex number as a receiver gives it, each part from -1023 to 1023.
 #[derive(Clone, Copy, PartialEq, Eq, Debug)]
@@ -63,6 +64,20 @@ fn product(a: Sample, b: Sample) -> (i32, i32)
     (a_re * b_re - a_im * b_im, a_re * b_im + a_im * b_re)
 }
 
+/// The record of no antenna.
+fn empty(weight: u16) -> Record
+    ensures value { λ r. ⌜ r ≡ held (symbolOf [] [] weight) ⌝ }
+    ensures small { λ r. ⌜ Summed 0 r ⌝ }
+{
+    Record {
+        z_re: 0,
+        z_im: 0,
+        y_energy: 0,
+        h_energy: 0,
+        weight,
+    }
+}
+
 /// The record with one more antenna's part.
 fn joined(before: Record, y: Sample, h: Sample) -> Record
     requires { ⌜ (Room before) × (Ranged y) × (Ranged h) ⌝ }
@@ -89,13 +104,7 @@ pub fn observe(y: &[Sample], h: &[Sample], weight: u16) -> Record
     ensures value { λ r. ⌜ r ≡ held (symbolOf (now (y .entry)) (now (h .entry)) weight) ⌝ }
     ensures small { λ r. ⌜ Measured r ⌝ }
 {
-    let mut total = Record {
-        z_re: 0,
-        z_im: 0,
-        y_energy: 0,
-        h_energy: 0,
-        weight,
-    };
+    let mut total = empty(weight);
     for i in 0..y.len() {
         total = joined(total, y[i], h[i]);
     }
