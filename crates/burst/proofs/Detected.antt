@@ -17,13 +17,14 @@ use Rattle.observation.specs.Observed.{held}
 use Rattle.protocol.specs.Verdicts.{Verdict, upTo}
 use Rattle.protocol.specs.Calls.{State, Call, taking, read, decide, outline, verdict, leaves, sheetOf, looked, reading, bitsOf}
 use Rattle.protocol.specs.Stands.{image, Stands, erasedRecord}
+use Rattle.protocol.proofs.Fronts.{passed}
 use Rattle.protocol.proofs.Images.{outline-image, sheet-image, bits-image, reading-image}
 use Rattle.detect.specs.Kept.{keptValue}
 use Rattle.detect.proofs.Linking.{kept-is}
 use Rattle.table.specs.Kept.{View, kept, outlined, issued, blank}
 use Rattle.table.specs.declared.turn.Turn.{Turn}
 use Rattle.burst.specs.Public.{Called, Taken, Read, Decided, written, turnOf, readOf}
-use Rattle.burst.proofs.Lifting.{Whole, called, outline-is, passed}
+use Rattle.burst.proofs.Lifting.{Whole, called, outline-is}
 use Rattle.soft.proofs.Rows.{of-paired}
 
 -- what a taking leaves of the table, by its verdict

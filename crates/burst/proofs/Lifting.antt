@@ -22,6 +22,7 @@ use Rattle.protocol.specs.Verdicts.{Verdict, accepted, need, each, inside, upTo
 use Rattle.protocol.specs.Placings.{OpenState, Placing, placeVerdict, placeAfter}
 use Rattle.protocol.specs.Calls.{Placed, State, Outline, Call, tell, taking, answer, withdraw, erase, read, outline, verdict, closed, leaves}
 use Rattle.protocol.specs.Stands.{openImage, image, StandsOpen, Stands, recorded, erasedSymbol, erasedRecord}
+use Rattle.protocol.proofs.Fronts.{passed}
 use Rattle.protocol.proofs.Images.{place-image, closed-image, outline-image, leaves-image}
 use Rattle.draft.specs.Drafted as drafted
 use Rattle.table.specs.Kept.{View, kept, outlined, paired, blank, over, fresh, tellLeft, answerLeft, withdrawLeft, eraseLeft, issued, returned}
@@ -93,14 +94,6 @@ module _ (M : Meaning) (v : View) (W : Whole v) where
           f ∙ ap (λ k. leaves erasedRecord r k c) S ∙ leaves-image held erasedSymbol erasedRecord (λ x. refl) r s c,
         );
       }
-
--- a test that was passed
-pub passed : (b : Bool) (c : Cause) (p : ℕ) (next : Verdict) → Ok tt ≡ need b c p next → (b ≡ true) × (Ok tt ≡ next)
-passed true c p next h = (refl, h)
-passed false c p next h =
-    let z : _≡_ {A = ℕ} 0 1 = cc in
-    let w : ⊥ = omega arith in
-    absurd w
 
 module _ (M : Meaning) (small : M .m ≤ 8) (v : View) (W : Whole v) where
   ready : length (take (v .len) (v .records)) * M .m ≤ length (v .priors)

@@ -8,11 +8,12 @@ use borrow.Author.Needs.{needs}
 use lib.Dec.{leb, eqb}
 use lib.ListN.{length, getD, take, drop}
 use Rattle.std.proofs.shelf.Lists.{take-rest}
-use Rattle.std.proofs.shelf.Tests.{le-leb}
+use Rattle.std.proofs.shelf.Tests.{le-leb, eqb-true}
 use Rattle.std.specs.declared.option.Option.{Option}
 use Rattle.std.specs.declared.option.Option.the-variants.{None}
 use Rattle.std.specs.declared.result.Result.the-variants.{Ok}
-use Rattle.burstfile.specs.Reading.{Layout, cut, cutAntennas, cutVectors, cutPriors, recordsSize, unlessBroken, brokenSettings, brokenAntennas, brokenPriors}
+use Rattle.burstfile.specs.Reading.{Layout, cut, cutAntennas, cutVectors, cutPriors, recordsSize, unlessBroken, brokenSettings, brokenAntennas, brokenPriors, priorsAllowed}
+use Rattle.burstfile.proofs.Options.{cond-none}
 
 abbrev pub rest : ℕ → List ℕ → List ℕ
 rest k bs = take (length bs - k) (drop k bs)
@@ -47,16 +48,23 @@ pub records-step : (total mode shift antennas n : ℕ) (bs : List ℕ) → 2 ≤
     → cutVectors total mode shift antennas bs ≡ cutPriors total mode shift antennas n (take (recordsSize mode antennas n) (rest 2 bs)) (drop (recordsSize mode antennas n) (rest 2 bs))
 records-step total mode shift antennas n bs = simp take-rest (go-records total mode shift antennas n bs)
 
-pub go-priors : (total mode shift antennas n k : ℕ) (records bs : List ℕ) → 2 ≤ length bs → k ≡ counted bs → 2 * k ≤ length (drop 2 bs)
+pub priors-hold : (mode n size k left : ℕ) → brokenPriors mode n size k left ≡ None → (priorsAllowed mode n k ≡ true) × (left ≡ 2 * k)
+priors-hold mode n size k left e =
+    let p = cond-none (priorsAllowed mode n k) _ _ e in
+    let q = cond-none (eqb left (2 * k)) _ _ (p .1) in
+    (p .0, eqb-true left (2 * k) (q .0))
+
+pub go-priors : (total mode shift antennas n k : ℕ) (records bs : List ℕ) → 2 ≤ length bs → k ≡ counted bs
     → brokenPriors mode n (length records) k (length (drop 2 bs)) ≡ None
     → cutPriors total mode shift antennas n records bs ≡ Ok (record { mode = mode; shift = shift; antennas = antennas; count = n; records = records; priors = drop 2 bs })
-go-priors total mode shift antennas n k records [] l2 e fits rule = absurd (omega arith)
-go-priors total mode shift antennas n k records (a ∷ []) l2 e fits rule = absurd (omega arith)
-go-priors total mode shift antennas n k records (a ∷ b ∷ bs) l2 e fits rule =
+go-priors total mode shift antennas n k records [] l2 e rule = absurd (omega arith)
+go-priors total mode shift antennas n k records (a ∷ []) l2 e rule = absurd (omega arith)
+go-priors total mode shift antennas n k records (a ∷ b ∷ bs) l2 e rule =
+    let ends : length bs ≡ 2 * k = priors-hold mode n (length records) k (length bs) rule .1 in
     let l : Layout = record { mode = mode; shift = shift; antennas = antennas; count = n; records = records; priors = bs } in
-    rw (← e, le-leb (2 * k) (length bs) fits) (ap (λ (o : Option ℕ). unlessBroken o (Ok l)) rule)
+    rw (← e, le-leb (2 * k) (length bs) (omega arith)) (ap (λ (o : Option ℕ). unlessBroken o (Ok l)) rule)
 
-pub priors-step : (total mode shift antennas n k : ℕ) (records bs : List ℕ) → 2 ≤ length bs → k ≡ counted bs → 2 * k ≤ length (rest 2 bs)
+pub priors-step : (total mode shift antennas n k : ℕ) (records bs : List ℕ) → 2 ≤ length bs → k ≡ counted bs
     → brokenPriors mode n (length records) k (length (rest 2 bs)) ≡ None
     → cutPriors total mode shift antennas n records bs ≡ Ok (record { mode = mode; shift = shift; antennas = antennas; count = n; records = records; priors = rest 2 bs })
 priors-step total mode shift antennas n k records bs = simp take-rest (go-priors total mode shift antennas n k records bs)

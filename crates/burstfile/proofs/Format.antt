@@ -27,7 +27,7 @@ use Rattle.burstfile.specs.declared.view.File.{File}
 use Rattle.std.specs.Results.{Cases}
 use Rattle.std.specs.Vec.{made}
 use Rattle.burstfile.proofs.Options.{cond-none, refused, passed, ok-same, unbroken}
-use Rattle.burstfile.proofs.Cuts.{go-settings, go-records, go-priors}
+use Rattle.burstfile.proofs.Cuts.{go-settings, go-records, go-priors, priors-hold}
 use Rattle.burstfile.proofs.Trips.{Byte, word-is, word-of, vectors-of, vectors-shaped, length-vectors-of, signeds-of, length-signeds-of, signeds-fit, vectors-is, length-vectors, signeds-is, length-signeds}
 
 allowed-rule : (mode n k : ℕ) → priorsAllowed mode n k ≡ true → (k ≡ 0) ⊎ (k ≡ symbolsOf mode n * bitsOf mode)
@@ -59,12 +59,6 @@ antennas-hold antennas e =
 
 hold-antennas : (antennas : ℕ) → 1 ≤ antennas → antennas ≤ 4 → brokenAntennas antennas ≡ None
 hold-antennas antennas low high = rw (le-leb 1 antennas low, le-leb antennas 4 high)
-
-priors-hold : (mode n size k left : ℕ) → brokenPriors mode n size k left ≡ None → (priorsAllowed mode n k ≡ true) × (left ≡ 2 * k)
-priors-hold mode n size k left e =
-    let p = cond-none (priorsAllowed mode n k) _ _ e in
-    let q = cond-none (eqb left (2 * k)) _ _ (p .1) in
-    (p .0, eqb-true left (2 * k) (q .0))
 
 hold-priors : (mode n size k left : ℕ) → priorsAllowed mode n k ≡ true → left ≡ 2 * k → brokenPriors mode n size k left ≡ None
 hold-priors mode n size k left allowed ends = rw (allowed, eq-eqb left (2 * k) ends)
@@ -104,7 +98,7 @@ module _ (c : Contents) (s : Shape c) where
   unfolding tail layoutOf
   cut-priors =
       go-priors (length (encode c)) (c .mode) (c .shift) (c .antennas) (length (c .vectors)) (length (c .priors)) (joined vector (c .vectors)) tail (omega arith)
-      (sym (word-is (length (c .priors)))) (omega (arith, length-signeds (c .priors)))
+      (sym (word-is (length (c .priors))))
       (hold-priors (c .mode) (length (c .vectors)) _ (length (c .priors)) _ (rule-allowed (c .mode) (length (c .vectors)) (length (c .priors)) (s .prior-rule)) (length-signeds (c .priors)))
 
   same-contents : contentsOf (layoutOf c) ≡ c

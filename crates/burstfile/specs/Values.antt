@@ -1,9 +1,10 @@
 -- The first value that breaks its rule, in a file whose sections stand: what opening, placing and telling refuse, in that order.
 use mathlib.Core.Bool.{Bool, cond}
 use mathlib.Core.List.{List, [], _∷_}
-use Prim.Native.Nat.{ℕ, _+_}
+use Prim.Native.Nat.{ℕ, _+_, _*_, _<_, _≤_}
 use lib.Dec.{leb}
-use lib.IntN.{ℤ, natAbs}
+use lib.IntN.{ℤ, pos, natAbs}
+use lib.ListN.{length, getD}
 use Rattle.std.specs.declared.option.Option.{Option}
 use Rattle.std.specs.declared.option.Option.the-variants.{Some, None}
 use Rattle.std.specs.declared.result.Result.{Result}
@@ -14,7 +15,7 @@ use Rattle.refusal.specs.declared.Refusal.{Refusal}
 use Rattle.burstfile.specs.declared.refused.FileRefusal.{FileRefusal}
 use Rattle.burstfile.specs.Refused.{inRecord}
 use Rattle.burstfile.specs.Format.{Pair, Vector, Contents}
-use Rattle.burstfile.specs.Reading.{Layout, cut, contentsOf}
+use Rattle.burstfile.specs.Reading.{Layout, cut, signedsOf, contentsOf}
 
 -- the first of two that there is
 abbrev pub orElse : {X : Type 0} → Option X → Option X → Option X
@@ -57,6 +58,16 @@ vectorsFault mode number (v ∷ vs) = orElse (numberedFault number (vectorFault 
 abbrev pub priorsFault : ℕ → List ℤ → Option Refusal
 priorsFault k [] = None
 priorsFault k (z ∷ zs) = cond (within 8191 z) (priorsFault (k + 1) zs) (Some (faultAt Range k))
+
+-- the first n of the values that bytes hold are from −8191 to 8191
+abbrev pub InsideTo : List ℕ → ℕ → Type 0
+InsideTo bs n = (k : ℕ) → k < n → natAbs (getD (signedsOf bs) k (pos 0)) ≤ 8191
+
+-- the value at k is the first that is not
+pub record FirstOutside (bs : List ℕ) (k : ℕ) : Type 0 where
+  pub stands : k * 2 + 2 ≤ length bs
+  pub outside : 8191 < natAbs (getD (signedsOf bs) k (pos 0))
+  pub before : InsideTo bs k
 
 -- the shift, then the records from 1, then the a priori values at positions from 1
 abbrev pub valuesFault : Contents → Option FileRefusal

@@ -11,8 +11,10 @@ mod view;
 
 pub use layout::sections;
 pub use numbers::check_priors;
+pub use numbers::first_outside;
 pub use numbers::pair;
 pub use numbers::pair_at;
+pub use numbers::part;
 pub use numbers::value;
 pub use numbers::value_at;
 pub use records::record_size;

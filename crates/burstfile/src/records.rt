@@ -5,6 +5,7 @@ ghost use Prim.Native.Nat.{_+_, _*_, _<_, _≤_};
 ghost use lib.ListN.{length, getD};
 ghost use Rattle.burstfile.specs.Reading.{Whole, laid, contentsOf, vectorOf, shown};
 ghost use Rattle.burstfile.specs.Format.{vectorSize, channelOf};
+use crate::numbers::part;
 use crate::view::File;
 use crate::view::RecordView;
 use crate::view::Settings;
@@ -25,15 +26,10 @@ pub fn record_view(antennas: u8, bytes: &[u8]) -> RecordView<'_>
     ensures y { λ r. ⌜ length (now (r .y)) ≡ 4 * antennas ⌝ }
     ensures h { λ r. ⌜ 2 + length (now (r .y)) + length (now (r .h)) ≡ length (now (bytes .entry)) ⌝ }
 {
-    let [high, low, pairs @ ..] = bytes else {
-        unreachable();
-    };
+    let (weight, pairs) = bytes.split_at(2);
     let (y, h) = pairs.split_at(4 * antennas as usize);
-    RecordView {
-        weight: u16::from_be_bytes([*high, *low]),
-        y,
-        h,
-    }
+    let weight = u16::from_be_bytes([weight[0], weight[1]]);
+    RecordView { weight, y, h }
 }
 
 impl<'a> File<'a> {
@@ -46,7 +42,6 @@ impl<'a> File<'a> {
         ensures h { λ r. ⌜ length (now (r .h)) ≡ 4 * channelOf (now (self .entry) .settings .mode) (now (self .entry) .settings .antennas) ⌝ }
     {
         let size = record_size(self.settings);
-        let start = i as usize * size;
-        record_view(self.settings.antennas, &self.records[start..start + size])
+        record_view(self.settings.antennas, part(self.records, i as usize, size))
     }
 }

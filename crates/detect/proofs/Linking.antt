@@ -19,7 +19,7 @@ use Rattle.metric.proofs.Values.{same-value}
 use Rattle.metric.proofs.Existing.{answers}
 use Rattle.metric.proofs.Lawfulness.{lawful-clear, lawful-seen}
 use Rattle.observation.specs.Observed.{held}
-use Rattle.observation.proofs.Energies.{energy-y-is, energy-h-is}
+use Rattle.observation.proofs.Sums.{energy-y-is, energy-h-is}
 use Rattle.detect.specs.Parts.{priorSum, baseOf, tvOf, tuOf}
 use Rattle.detect.specs.Tops.{coded, offerOf, topOf, valueOf}
 use Rattle.detect.specs.Kept.{keptValue}

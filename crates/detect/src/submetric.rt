@@ -2,7 +2,7 @@
 
 ghost use mathlib.Core.Path.{_≡_};
 ghost use Prim.Native.Nat.{_+_, _≤_, _<_};
-ghost use lib.IntN.{natAbs};
+ghost use lib.IntN.{natAbs, pos, _+ℤ_, _*ℤ_};
 ghost use lib.ListN.{length};
 ghost use Rattle.std.specs.shelf.Lists.{All};
 ghost use Rattle.metric.specs.Exhaustive.{labelBit};
@@ -45,6 +45,15 @@ fn turned(w: i64, x: u16, z: i32, s: i64, a: i16) -> i64
     4096 * w * (x as i64) * (z as i64) - s * (a as i64)
 }
 
+/// 2^20·|y|² and the rest of a distance.
+fn farther(y_energy: u32, rest: i64) -> i64
+    requires { ⌜ («y_energy» ≤ 8372232) × (natAbs rest ≤ 280788335427600) ⌝ }
+    ensures value { λ r. ⌜ r ≡ pos 1048576 *ℤ pos «y_energy» +ℤ rest ⌝ }
+    ensures small { λ r. ⌜ natAbs r ≤ 289567256969232 ⌝ }
+{
+    1048576 * (y_energy as i64) + rest
+}
+
 /// The part of a doubled metric that no sign turns: prior is the label's a priori sum.
 fn based(w: i64, x: u16, y: u16, r: &Record, s: i64, prior: i64) -> i64
     requires { ⌜ Basing w x y (now r) s prior ⌝ }
@@ -53,7 +62,7 @@ fn based(w: i64, x: u16, y: u16, r: &Record, s: i64, prior: i64) -> i64
 {
     let x = x as i64;
     let y = y as i64;
-    2 * s * prior - 2 * w * (1048576 * (r.y_energy as i64) + (x * x + y * y) * (r.h_energy as i64))
+    2 * s * prior - 2 * w * farther(r.y_energy, (x * x + y * y) * (r.h_energy as i64))
 }
 
 /// The base of a quadrant point's doubled metrics, and what the signs of its coordinates turn.

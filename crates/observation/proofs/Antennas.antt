@@ -8,14 +8,14 @@ use lib.IntN.{ℤ, pos, _+ℤ_, _-ℤ_, _*ℤ_, natAbs}
 use lib.ListN.{length, getD, take, length-take}
 use Rattle.std.proofs.shelf.Signed.{ints}
 use Rattle.std.proofs.shelf.Lists.{take-more}
-use Rattle.arith.proofs.Exact.{Is, given, times, plus, minus}
+use Rattle.arith.proofs.Exact.{Is, given, times, plus, minus, negated}
 use Rattle.metric.specs.Exhaustive.{Antenna}
 use Rattle.metric.specs.Reduced.{energyY, energyH, matched}
 use Rattle.observation.specs.declared.Sample.{Sample}
 use Rattle.observation.specs.declared.Record.{Record}
 use Rattle.observation.specs.Observed.{complex, antennasOf, symbolOf, held, Ranged}
-use Rattle.observation.specs.Joining.{energyOf, correlation, Summed, Joined}
-use Rattle.observation.proofs.Energies.{y-push, h-push, re-push, im-push}
+use Rattle.observation.specs.Joining.{energyOf, productOf, conjugated, Summed, Joined}
+use Rattle.observation.proofs.Sums.{y-push, h-push, re-push, im-push}
 
 abbrev antenna : Sample → Sample → Antenna
 antenna y h = record { received = complex y; reference = complex h }
@@ -44,8 +44,8 @@ join-more ys hs w i d {r} {s} e h same j =
     let one = antenna (getD ys i d) (getD hs i d) in
     same-record (j .re) (j .im) (j .y-energy) (j .h-energy) (j .weight)
     ∙ same-record
-    (ap (λ (t : Record). t .«z_re» +ℤ correlation (getD ys i d) (getD hs i d) .0) same ∙ sym (re-push before one))
-    (ap (λ (t : Record). t .«z_im» +ℤ correlation (getD ys i d) (getD hs i d) .1) same ∙ sym (im-push before one))
+    (ap (λ (t : Record). t .«z_re» +ℤ productOf (getD ys i d) (conjugated (getD hs i d)) .0) same ∙ sym (re-push before one))
+    (ap (λ (t : Record). t .«z_im» +ℤ productOf (getD ys i d) (conjugated (getD hs i d)) .1) same ∙ sym (im-push before one))
     (ap (λ (t : Record). t .«y_energy» + energyOf (getD ys i d)) same ∙ sym (y-push before one))
     (ap (λ (t : Record). t .«h_energy» + energyOf (getD hs i d)) same ∙ sym (h-push before one))
     (ap (λ (t : Record). t .weight) same)
@@ -59,16 +59,19 @@ energy-small s h =
     omega arith
 
 -- both parts of a product
-pub re-small : (y h : Sample) → Ranged y → Ranged h → natAbs (correlation y h .0) ≤ 2093058
-re-small y h p q = plus (times (given (y .re) (p .re)) (given (h .re) (q .re))) (times (given (y .im) (p .im)) (given (h .im) (q .im))) .within
+pub re-small : (a b : Sample) → Ranged a → Ranged b → natAbs (productOf a b .0) ≤ 2093058
+re-small a b p q = minus (times (given (a .re) (p .re)) (given (b .re) (q .re))) (times (given (a .im) (p .im)) (given (b .im) (q .im))) .within
 
-pub im-small : (y h : Sample) → Ranged y → Ranged h → natAbs (correlation y h .1) ≤ 2093058
-im-small y h p q = minus (times (given (y .im) (p .im)) (given (h .re) (q .re))) (times (given (y .re) (p .re)) (given (h .im) (q .im))) .within
+pub im-small : (a b : Sample) → Ranged a → Ranged b → natAbs (productOf a b .1) ≤ 2093058
+im-small a b p q = plus (times (given (a .re) (p .re)) (given (b .im) (q .im))) (times (given (a .im) (p .im)) (given (b .re) (q .re))) .within
+
+pub conjugate-ranged : (s : Sample) → Ranged s → Ranged (conjugated s)
+conjugate-ranged s h = record { re = h .re; im = negated (given (s .im) (h .im)) .within }
 
 pub sum-small : (i : ℕ) {r s : Record} {y h : Sample} → Summed i r → Joined r y h s → Ranged y → Ranged h → Summed (i + 1) s
 sum-small i {r} {s} {y} {h} b j p q = record {
-  re = next (s .«z_re») (r .«z_re») (correlation y h .0) (j .re) (b .re) (re-small y h p q);
-  im = next (s .«z_im») (r .«z_im») (correlation y h .1) (j .im) (b .im) (im-small y h p q);
+  re = next (s .«z_re») (r .«z_re») (productOf y (conjugated h) .0) (j .re) (b .re) (re-small y (conjugated h) p (conjugate-ranged h q));
+  im = next (s .«z_im») (r .«z_im») (productOf y (conjugated h) .1) (j .im) (b .im) (im-small y (conjugated h) p (conjugate-ranged h q));
   y = up (s .«y_energy») (r .«y_energy») (energyOf y) (j .y-energy) (b .y) (energy-small y p);
   h = up (s .«h_energy») (r .«h_energy») (energyOf h) (j .h-energy) (b .h) (energy-small h q);
 }

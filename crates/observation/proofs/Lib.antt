@@ -1,3 +1,3 @@
-pub mod Energies
+pub mod Sums
 pub mod Antennas
 pub mod Sizes

@@ -1,11 +1,12 @@
 //! What is kept of a symbol: from its received and reference vectors, the few numbers that detection needs.
 
 ghost use mathlib.Core.Path.{_≡_};
+ghost use mathlib.Core.List.{[]};
 ghost use Prim.Native.Nat.{_≤_};
 ghost use lib.ListN.{length};
 ghost use Rattle.std.specs.shelf.Lists.{All};
 ghost use Rattle.observation.specs.Observed.{Ranged, Measured, held, symbolOf};
-ghost use Rattle.observation.specs.Joining.{energyOf, correlation, Room, Joined};
+ghost use Rattle.observation.specs.Joining.{energyOf, productOf, Conjugate, Summed, Room, Joined};
 
 /// A complex number as a receiver gives it, each part from -1023 to 1023.
 #[derive(Clone, Copy, PartialEq, Eq, Debug)]
@@ -34,14 +35,47 @@ fn energy(s: Sample) -> u32
     re * re + im * im
 }
 
-/// y times the conjugate of h: the real part and the imaginary one.
-fn correlated(y: Sample, h: Sample) -> (i32, i32)
+/// The energies of both.
+fn energies(y: Sample, h: Sample) -> (u32, u32)
     requires { ⌜ (Ranged y) × (Ranged h) ⌝ }
-    ensures { λ r. ⌜ r ≡ correlation y h ⌝ }
+    ensures { λ r. ⌜ r ≡ (energyOf y, energyOf h) ⌝ }
 {
-    let (y_re, y_im) = (y.re as i32, y.im as i32);
-    let (h_re, h_im) = (h.re as i32, h.im as i32);
-    (y_re * h_re + y_im * h_im, y_im * h_re - y_re * h_im)
+    (energy(y), energy(h))
+}
+
+/// The conjugate.
+fn conjugate(s: Sample) -> Sample
+    requires { ⌜ Ranged s ⌝ }
+    ensures { λ r. ⌜ Conjugate s r ⌝ }
+{
+    Sample {
+        re: s.re,
+        im: -s.im,
+    }
+}
+
+/// a times b: the real part and the imaginary one.
+fn product(a: Sample, b: Sample) -> (i32, i32)
+    requires { ⌜ (Ranged a) × (Ranged b) ⌝ }
+    ensures { λ r. ⌜ r ≡ productOf a b ⌝ }
+{
+    let (a_re, a_im) = (a.re as i32, a.im as i32);
+    let (b_re, b_im) = (b.re as i32, b.im as i32);
+    (a_re * b_re - a_im * b_im, a_re * b_im + a_im * b_re)
+}
+
+/// The record of no antenna.
+fn empty(weight: u16) -> Record
+    ensures value { λ r. ⌜ r ≡ held (symbolOf [] [] weight) ⌝ }
+    ensures small { λ r. ⌜ Summed 0 r ⌝ }
+{
+    Record {
+        z_re: 0,
+        z_im: 0,
+        y_energy: 0,
+        h_energy: 0,
+        weight,
+    }
 }
 
 /// The record with one more antenna's part.
@@ -49,12 +83,13 @@ fn joined(before: Record, y: Sample, h: Sample) -> Record
     requires { ⌜ (Room before) × (Ranged y) × (Ranged h) ⌝ }
     ensures { λ r. ⌜ Joined before y h r ⌝ }
 {
-    let (z_re, z_im) = correlated(y, h);
+    let (z_re, z_im) = product(y, conjugate(h));
+    let (y_energy, h_energy) = energies(y, h);
     Record {
         z_re: before.z_re + z_re,
         z_im: before.z_im + z_im,
-        y_energy: before.y_energy + energy(y),
-        h_energy: before.h_energy + energy(h),
+        y_energy: before.y_energy + y_energy,
+        h_energy: before.h_energy + h_energy,
         weight: before.weight,
     }
 }
@@ -69,13 +104,7 @@ pub fn observe(y: &[Sample], h: &[Sample], weight: u16) -> Record
     ensures value { λ r. ⌜ r ≡ held (symbolOf (now (y .entry)) (now (h .entry)) weight) ⌝ }
     ensures small { λ r. ⌜ Measured r ⌝ }
 {
-    let mut total = Record {
-        z_re: 0,
-        z_im: 0,
-        y_energy: 0,
-        h_energy: 0,
-        weight,
-    };
+    let mut total = empty(weight);
     for i in 0..y.len() {
         total = joined(total, y[i], h[i]);
     }

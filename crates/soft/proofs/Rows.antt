@@ -17,6 +17,7 @@ use Rattle.std.proofs.shelf.Tests.{and-parts}
 use Rattle.observation.specs.declared.Record.{Record}
 use Rattle.protocol.specs.Verdicts.{inside}
 use Rattle.protocol.specs.Calls.{Placed, ofSymbol}
+use Rattle.protocol.proofs.Fronts.{front-all}
 use Rattle.table.specs.Kept.{paired, blank}
 use Rattle.table.proofs.Pairs.{length-paired, take-front, drop-front}
 
@@ -26,15 +27,8 @@ in-size z h =
     let p = and-parts (leZ (negsuc 8190) z) (leZ z (pos 8191)) h in
     grind (arith, ints)
 
-first : (b : Bool) (a n : ℕ) → cond b (1 + a) 0 ≡ suc n → (b ≡ true) × (a ≡ n)
-first true a n h = (refl, omega arith)
-first false a n h = let w : ⊥ = omega arith in absurd w
-
 pub all-in-size : (zs : List ℤ) → leading inside zs ≡ length zs → All (λ x. natAbs x ≤ 8191) zs
-all-in-size [] h = tt
-all-in-size (z ∷ zs) h =
-    let w = first (inside z) (leading inside zs) (length zs) h in
-    (in-size z (w .0), all-in-size zs (w .1))
+all-in-size zs h = front-all inside (λ x. natAbs x ≤ 8191) in-size zs h
 
 -- one symbol more
 paired-more : (m : ℕ) (rs : List Record) (zs : List ℤ) (i : ℕ) → i < length rs → paired m (take (i + 1) rs) zs ≡ paired m (take i rs) zs ++ (record { symbol = getD rs i blank; priors = take m (drop (i * m) zs) } ∷ [])

@@ -3,12 +3,10 @@ use Prim.Native.Nat.{ℕ, _+_, _*_, _≤_, _<_}
 use native.Mathlib.Omega.{arith}
 use mathlib.Core.Path.{_≡_, refl, sym, ap, ap₂, _∙_, subst}
 use mathlib.Core.List.{List}
-use lib.Dec.{lit≤}
 use lib.IntN.{ℤ, pos, natAbs}
 use lib.ListN.{length, getD, take}
 use Rattle.std.proofs.shelf.Elements.{all-getD}
 use Rattle.std.proofs.shelf.Lists.{take-all}
-use Rattle.metric.specs.Reduced.{energyY, energyH, matched}
 use Rattle.observation.specs.declared.Sample.{Sample}
 use Rattle.observation.specs.declared.Record.{Record}
 use Rattle.observation.specs.Observed.{Ranged, Measured, symbolOf, held}
@@ -17,10 +15,6 @@ use Rattle.observation.proofs.Antennas.{join-more, sum-small}
 
 abbrev nothing : Sample
 nothing = record { re = pos 0; im = pos 0 }
-
-pub loop-i-holds : need.loop-i-holds
-unfolding energyY energyH matched
-loop-i-holds c = (refl, record { re = lit≤ tt; im = lit≤ tt; y = lit≤ tt; h = lit≤ tt })
 
 -- fewer antennas, less
 fewer : {i n : ℕ} {r : Record} → i ≤ n → Summed i r → Summed n r

@@ -13,7 +13,7 @@ use Rattle.std.specs.Iters.{counting}
 use Rattle.detect.specs.Charts.{chartMeaning}
 use Rattle.detect.specs.Kept.{keptValue}
 use Rattle.table.specs.Kept.{blank}
-use Rattle.table.proofs.Fronts.{front-at, front-take, front-drop}
+use Rattle.protocol.proofs.Fronts.{front-at, front-take, front-drop}
 use Rattle.soft.proofs.Rows.{all-in-size, row-room, table-room}
 use Rattle.soft.proofs.row.Needs as need
 
@@ -42,7 +42,7 @@ extrinsic-values-requires c κs =
     record {
       lawful = c .pre .lawful;
       sized = c .pre .sized;
-      measured = measured-is (getD (t .records) (c .args .i) blank) (front-at measured (c .args .i) blank (t .records) l (t .sized ∙ sym whole));
+      measured = measured-is (getD (t .records) (c .args .i) blank) (front-at measured (t .records) (c .args .i) blank l (t .sized ∙ sym whole));
       shifted = t .low;
       known = n;
       ranged = all-in-size _ (front-take inside (at + m - at) (drop at (t .priors)) (front-drop inside at (t .priors) (t .ranged ∙ sym wide)));

@@ -1,29 +1,11 @@
-use borrow.Author.Needs.{needs}
-use native.Mathlib.Omega.{arith}
-use mathlib.Core.Path.{_≡_, sym, _∙_}
-use Prim.Native.Nat.{ℕ, _<_, _≤_}
-use lib.IntN.{natAbs}
-use lib.ListN.{length}
-use Rattle.burstfile.specs.Reading.{signedsOf}
-use Rattle.burstfile.proofs.Walks.{halves, prior-passed, prior-refused, priors-passed}
+use Rattle.burstfile.proofs.Walks.{priors-inside, priors-outside}
 use Rattle.burstfile.proofs.numbers.check_priors.Needs as need
 
-pub returns-then-unsigned-abs-gt-LARGEST : need.returns-then-unsigned-abs-gt-LARGEST
-returns-then-unsigned-abs-gt-LARGEST c =
-    let bs = c .args .priors .now in
-    let lt : c .loop-k .k < length (signedsOf bs) = omega (arith, halves bs .1) in
-    let gt : 8191 < natAbs (c .value-at .result) = search needs in
-    cc (prior-refused (signedsOf bs) (c .loop-k .k) (c .value-at .result) lt (c .value-at .ensures) gt, c .loop-k .inv, c .at .ensures)
+pub returns-in-Some : need.returns-in-Some
+returns-in-Some c =
+    let first = c .in-Some .ensures tt in
+    let refused = priors-outside (c .args .priors .now) (c .in-Some .position) (first .0) (first .1) in
+    cc (refused, c .at .ensures)
 
-pub loop-k-again : need.loop-k-again
-loop-k-again c =
-    let bs = c .args .priors .now in
-    let lt : c .loop-k .k < length (signedsOf bs) = omega (arith, halves bs .1) in
-    let le : natAbs (c .value-at .result) ≤ 8191 = search needs in
-    sym (prior-passed (signedsOf bs) (c .loop-k .k) (c .value-at .result) lt (c .value-at .ensures) le) ∙ c .loop-k .inv
-
-pub returns : need.returns
-returns c =
-    let bs = c .args .priors .now in
-    let le : length (signedsOf bs) ≤ c .loop-k .k = omega (arith, halves bs .0) in
-    sym (c .loop-k .inv) ∙ priors-passed (signedsOf bs) (c .loop-k .k) le
+pub returns-in-None : need.returns-in-None
+returns-in-None c = priors-inside (c .args .priors .now) (c .in-None .ensures tt)

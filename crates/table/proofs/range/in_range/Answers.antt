@@ -13,7 +13,7 @@ use Rattle.std.proofs.shelf.Ways.{tells}
 use Rattle.std.specs.declared.result.Result.the-variants.{Err}
 use Rattle.refusal.specs.declared.Cause.the-variants.{Range}
 use Rattle.protocol.specs.Verdicts.{inside}
-use Rattle.table.proofs.Fronts.{each-all, each-at}
+use Rattle.protocol.proofs.Fronts.{each-all, each-at}
 use Rattle.table.proofs.range.in_range.Needs as need
 
 pub loop-i-again : need.loop-i-again

@@ -11,7 +11,7 @@ use Rattle.protocol.specs.Calls.{read, verdict, looked}
 use Rattle.detect.specs.Kept.{keptValue}
 use Rattle.table.specs.Kept.{view, kept, outlined}
 use Rattle.burst.specs.Public.{Read}
-use Rattle.burst.proofs.Lifting.{Whole, passed}
+use Rattle.burst.proofs.Lifting.{Whole}
 use Rattle.soft.proofs.Rows.{of-paired}
 use Rattle.burst.proofs.Detected.{read-by, seen-at}
 use Rattle.burst.proofs.burst.Burst.read.Needs as need

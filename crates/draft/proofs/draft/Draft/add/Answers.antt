@@ -5,7 +5,7 @@ use lib.ListN.{length}
 use Rattle.std.proofs.shelf.Lists.{length-set, take-more-set}
 use Rattle.observation.specs.Sizes.{measured}
 use Rattle.observation.proofs.Sizes.{measured-from}
-use Rattle.draft.proofs.Fronts.{leading-set}
+use Rattle.protocol.proofs.Fronts.{front-set as leading-set}
 use Rattle.draft.proofs.draft.Draft.add.Needs as need
 
 pub ghost-self : need.ghost-self

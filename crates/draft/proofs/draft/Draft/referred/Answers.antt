@@ -1,6 +1,6 @@
 use mathlib.Core.Path.{refl, sym, _∙_}
 use Rattle.protocol.specs.Placings.{fine}
-use Rattle.draft.proofs.Fronts.{leading-take}
+use Rattle.protocol.proofs.Fronts.{front-take as leading-take}
 use Rattle.draft.proofs.draft.Draft.referred.Needs as need
 
 pub returns : need.returns

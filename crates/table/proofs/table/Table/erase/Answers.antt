@@ -9,7 +9,7 @@ use Rattle.observation.specs.Sizes.{measured}
 use Rattle.observation.proofs.Sizes.{measured-is, measured-from}
 use Rattle.protocol.specs.Stands.{erasedRecord}
 use Rattle.table.specs.Kept.{blank}
-use Rattle.table.proofs.Fronts.{front-set, front-at}
+use Rattle.protocol.proofs.Fronts.{front-set, front-at}
 use Rattle.table.proofs.table.Table.erase.Needs as need
 
 pub ghost-self : need.ghost-self
@@ -20,11 +20,11 @@ ghost-self c =
     let whole = t .whole in
     let few = t .few in
     let l : i < length (t .records) = omega arith in
-    let old-fits = measured-is old (front-at measured i blank (t .records) l (t .sized ∙ sym whole)) in
+    let old-fits = measured-is old (front-at measured (t .records) i blank l (t .sized ∙ sym whole)) in
     let fits : measured (erasedRecord old) ≡ true = measured-from (erasedRecord old) (record { re = old-fits .re; im = old-fits .im; y = old-fits .y; h = old-fits .h; w = omega arith }) in (
       few,
       (
         length-set (t .records) i (erasedRecord old) ∙ whole,
-        (t .wide, (t .ranged, (front-set measured i (erasedRecord old) (t .records) fits (t .sized ∙ sym whole) ∙ whole, (t .low, tt)))),
+        (t .wide, (t .ranged, (front-set measured (t .records) i (erasedRecord old) fits (t .sized ∙ sym whole) ∙ whole, (t .low, tt)))),
       ),
     )

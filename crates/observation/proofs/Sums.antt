@@ -1,12 +1,10 @@
 -- Energies are natural numbers, and add up antenna by antenna.
 use Prim.Native.Nat.{ℕ, _+_, _*_}
 use native.Mathlib.Omega.{arith}
-use mathlib.Core.Path.{_≡_, refl, sym, ap, ap₂, _∙_}
+use mathlib.Core.Path.{_≡_, refl, ap, _∙_}
 use mathlib.Core.List.{List, [], _∷_, _++_}
 use lib.IntN.{ℤ, pos, negsuc, _+ℤ_, _-ℤ_, _*ℤ_, negℤ, natAbs}
 use Rattle.std.proofs.shelf.Signed.{ints}
-use Rattle.arith.specs.Ring.{Poly, var, con, _:+_, _:-_, _:*_, neg}
-use Rattle.arith.proofs.RingLaws.{ring}
 use Rattle.metric.specs.Exhaustive.{Complex, Antenna, square, times}
 use Rattle.metric.specs.Reduced.{energyY, energyH, matched, conj}
 
@@ -64,21 +62,16 @@ h-push l a = size-push (size (a .reference)) (square (a .reference)) (energyH l)
     go [] = last (square (a .reference))
     go (b ∷ l) = ap (λ t. square (b .reference) +ℤ t) (go l) ∙ regroup (square (b .reference)) (energyH l) (square (a .reference))
 
--- y times the conjugate of h, written out
-real-is : (a b c d : ℤ) → a *ℤ c -ℤ b *ℤ negℤ d ≡ a *ℤ c +ℤ b *ℤ d
-real-is a b c d = ring (a ∷ b ∷ c ∷ d ∷ []) (var 0 :* var 2 :- var 1 :* neg (var 3)) (var 0 :* var 2 :+ var 1 :* var 3) refl
-
-imaginary-is : (a b c d : ℤ) → a *ℤ negℤ d +ℤ b *ℤ c ≡ b *ℤ c -ℤ a *ℤ d
-imaginary-is a b c d = ring (a ∷ b ∷ c ∷ d ∷ []) (var 0 :* neg (var 3) :+ var 1 :* var 2) (var 1 :* var 2 :- var 0 :* var 3) refl
-
-pub re-push : (l : List Antenna) (a : Antenna) →
-    matched (l ++ (a ∷ [])) .re ≡ matched l .re +ℤ (a .received .re *ℤ a .reference .re +ℤ a .received .im *ℤ a .reference .im)
+pub re-push : (l : List Antenna) (a : Antenna) → matched (l ++ (a ∷ [])) .re ≡ matched l .re +ℤ times (a .received) (conj (a .reference)) .re
 unfolding matched
-re-push [] a = last (times (a .received) (conj (a .reference)) .re) ∙ ap (λ t. pos 0 +ℤ t) (real-is (a .received .re) (a .received .im) (a .reference .re) (a .reference .im))
-re-push (b ∷ l) a = ap (λ t. times (b .received) (conj (b .reference)) .re +ℤ t) (re-push l a) ∙ regroup (times (b .received) (conj (b .reference)) .re) (matched l .re) (a .received .re *ℤ a .reference .re +ℤ a .received .im *ℤ a .reference .im)
+re-push [] a = last (times (a .received) (conj (a .reference)) .re)
+re-push (b ∷ l) a =
+    ap (λ t. times (b .received) (conj (b .reference)) .re +ℤ t) (re-push l a)
+    ∙ regroup (times (b .received) (conj (b .reference)) .re) (matched l .re) (times (a .received) (conj (a .reference)) .re)
 
-pub im-push : (l : List Antenna) (a : Antenna) →
-    matched (l ++ (a ∷ [])) .im ≡ matched l .im +ℤ (a .received .im *ℤ a .reference .re -ℤ a .received .re *ℤ a .reference .im)
+pub im-push : (l : List Antenna) (a : Antenna) → matched (l ++ (a ∷ [])) .im ≡ matched l .im +ℤ times (a .received) (conj (a .reference)) .im
 unfolding matched
-im-push [] a = last (times (a .received) (conj (a .reference)) .im) ∙ ap (λ t. pos 0 +ℤ t) (imaginary-is (a .received .re) (a .received .im) (a .reference .re) (a .reference .im))
-im-push (b ∷ l) a = ap (λ t. times (b .received) (conj (b .reference)) .im +ℤ t) (im-push l a) ∙ regroup (times (b .received) (conj (b .reference)) .im) (matched l .im) (a .received .im *ℤ a .reference .re -ℤ a .received .re *ℤ a .reference .im)
+im-push [] a = last (times (a .received) (conj (a .reference)) .im)
+im-push (b ∷ l) a =
+    ap (λ t. times (b .received) (conj (b .reference)) .im +ℤ t) (im-push l a)
+    ∙ regroup (times (b .received) (conj (b .reference)) .im) (matched l .im) (times (a .received) (conj (a .reference)) .im)
