@@ -1,8 +1,8 @@
 -- One more quadrant point in the buckets, and the places' pairs from them.
-use Prim.Native.Nat.{ℕ, zero, suc, _+_, _-_, _*_, _/_, _%_, _^_, _≤_, _<_}
+use Prim.Native.Nat.{ℕ, zero, suc, _+_, _-_, _/_, _%_, _^_, _≤_, _<_}
 use native.Mathlib.Omega.{arith}
 use mathlib.Core.Path.{_≡_, refl, sym, ap, ap₂, _∙_, subst}
-use mathlib.Core.Logic.{_⊎_, inl, inr, _≢_}
+use mathlib.Core.Logic.{inl, inr, _≢_}
 use mathlib.Core.Bool.{Bool, true, false, cond, Bool·beq}
 use mathlib.Core.List.{List, [], _∷_, _++_}
 use Rattle.std.specs.declared.option.Option.{Option}
@@ -13,7 +13,7 @@ use Rattle.std.proofs.shelf.Signed.{ints, clamps}
 use Rattle.std.proofs.shelf.Ways.{leb-tells, eqb-tells, tells}
 use Rattle.std.proofs.shelf.Lists.{take-more}
 use Rattle.std.proofs.shelf.Elements.{all-getD, all-set, all-more}
-use lib.Dec.{eqb, ltb, leb}
+use lib.Dec.{eqb, ltb}
 use lib.ListN.{getD, length, take, set}
 use lib.Seq.{getD-set-same, getD-set-other}
 use lib.IntN.{ℤ, pos, _+ℤ_, _-ℤ_, negℤ, natAbs}
@@ -26,9 +26,9 @@ use Rattle.constellation.specs.declared.Point.{Point}
 use Rattle.observation.specs.declared.Record.{Record}
 use Rattle.detect.specs.Parts.{baseOf, tvOf, tuOf}
 use Rattle.detect.specs.Tops.{lowest, coded, Held, Bounded, raisedBy, offerOf, topOf, pairOf}
-use Rattle.detect.specs.Buckets.{crossOf, topsBy, overCodes, overs, lowHalf, highHalf, Bucketed, placeOf, Gathered}
+use Rattle.detect.specs.Buckets.{crossOf, topsBy, overCodes, lowHalf, highHalf, Bucketed, placeOf, Gathered}
 use Rattle.detect.proofs.Topping.{both, coded-greater, within-above, top-more}
-use Rattle.detect.proofs.Coding.{tops-same, tops-above, under, over-is}
+use Rattle.detect.proofs.Coding.{tops-same, under, over-is}
 
 eqb-same : (n : ℕ) → eqb n n ≡ true
 eqb-same n = grind (arith, tells)

@@ -1,8 +1,8 @@
 -- The best over the points is the reduced way's, so the value is the exhaustive detector's.
-use Prim.Native.Nat.{ℕ, _+_, _*_, _^_, _≤_, _<_}
+use Prim.Native.Nat.{ℕ, _+_, _*_, _^_, _≤_}
 use native.Mathlib.Omega.{arith}
-use mathlib.Core.Path.{_≡_, refl, sym, ap, ap₂, _∙_, subst}
-use mathlib.Core.Bool.{Bool, true, false, cond}
+use mathlib.Core.Path.{_≡_, refl, sym, ap, ap₂, _∙_}
+use mathlib.Core.Bool.{Bool, true, false}
 use mathlib.Core.List.{List, [], _∷_}
 use Rattle.std.specs.declared.option.Option.{Option}
 use Rattle.std.specs.declared.option.Option.the-variants.{Some, None}
@@ -12,7 +12,7 @@ use lib.Dec.{eqb}
 use lib.IntN.{ℤ, pos, _+ℤ_, _-ℤ_, _*ℤ_, negℤ, natAbs}
 use Rattle.constellation.specs.Meaning.{Meaning, Lawful}
 use Rattle.constellation.specs.declared.Point.{Point}
-use Rattle.metric.specs.Exhaustive.{Symbol, labelBit, atBit, mapped, greater, apart, weighed, extrinsic}
+use Rattle.metric.specs.Exhaustive.{Symbol, labelBit, atBit, mapped, greater, apart, weighed}
 use Rattle.metric.specs.Reduced.{energyY, energyH, base, turnV, turnU, choice, quadrantBest, bestOver, reducedValue}
 use Rattle.metric.specs.Value.{extrinsicValue, orZero}
 use Rattle.metric.proofs.Values.{same-value}

@@ -2,6 +2,7 @@
 
 ghost use mathlib.Core.Path.{_≡_};
 ghost use Prim.Native.Nat.{_≤_};
+ghost use lib.ListN.{length, take};
 ghost use Rattle.detect.specs.Charts.{chartMeaning};
 use constellation::Constellation;
 use constellation::Point;
@@ -23,6 +24,18 @@ const ORIGIN: Point = Point {
     label: 0,
 };
 
+/// The quadrant points in their order; what stands past the last says nothing.
+fn copied<C: Constellation>(c: &C, size: u8) -> [Point; 64]
+    requires { ⌜ size ≡ length (C·Constellation .meaning (now c) .points) ⌝ }
+    ensures { λ r. ⌜ take size r ≡ C·Constellation .meaning (now (c .entry)) .points ⌝ }
+{
+    let mut points = [ORIGIN; 64];
+    for i in 0..size as usize {
+        points[i] = c.point(i + 1);
+    }
+    points
+}
+
 impl Chart {
     /// The chart of a constellation.
     pub fn of<C: Constellation>(c: &C) -> Chart
@@ -30,16 +43,12 @@ impl Chart {
         ensures sized { λ r. ⌜ r .size ≤ 64 ⌝ }
     {
         let size = c.size();
-        let mut points = [ORIGIN; 64];
-        for i in 0..size as usize {
-            points[i] = c.point(i + 1);
-        }
         Chart {
             m: c.m(),
             u: c.u(),
             v: c.v(),
             size,
-            points,
+            points: copied(c, size),
         }
     }
 }

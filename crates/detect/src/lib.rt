@@ -5,3 +5,6 @@ mod pass;
 mod submetric;
 pub mod value;
 mod weights;
+
+pub use crate::chart::Chart;
+pub use crate::value::extrinsic_values;

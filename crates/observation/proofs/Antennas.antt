@@ -4,13 +4,12 @@ use native.Mathlib.Omega.{arith}
 use native.Mathlib.Nat.{mul-le-mul}
 use mathlib.Core.Path.{_≡_, refl, sym, ap, ap₂, _∙_}
 use mathlib.Core.List.{List, [], _∷_, _++_}
-use lib.IntN.{ℤ, pos, _+ℤ_, _-ℤ_, _*ℤ_, natAbs}
+use lib.IntN.{ℤ, _+ℤ_, natAbs}
 use lib.ListN.{length, getD, take, length-take}
 use Rattle.std.proofs.shelf.Signed.{ints}
 use Rattle.std.proofs.shelf.Lists.{take-more}
 use Rattle.arith.proofs.Exact.{Is, given, times, plus, minus, negated}
 use Rattle.metric.specs.Exhaustive.{Antenna}
-use Rattle.metric.specs.Reduced.{energyY, energyH, matched}
 use Rattle.observation.specs.declared.Sample.{Sample}
 use Rattle.observation.specs.declared.Record.{Record}
 use Rattle.observation.specs.Observed.{complex, antennasOf, symbolOf, held, Ranged}

@@ -1,6 +1,5 @@
 -- A symbol's vectors as the detector's mathematics has them, and what a record keeps of them.
 use Prim.Native.Nat.{ℕ, _≤_}
-use mathlib.Core.Path.{_≡_}
 use mathlib.Core.List.{List, [], _∷_}
 use lib.IntN.{natAbs}
 use Rattle.metric.specs.Exhaustive.{Complex, Antenna, Symbol}

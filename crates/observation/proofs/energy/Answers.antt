@@ -1,13 +1,9 @@
 use Rattle.observation.proofs.energy.Needs as need
-use Prim.Native.Nat.{ℕ, _+_, _*_, _≤_}
 use native.Mathlib.Omega.{arith}
-use mathlib.Core.Path.{_≡_, ap, _∙_}
-use lib.IntN.{ℤ, natAbs}
+use mathlib.Core.Path.{ap, _∙_}
+use lib.IntN.{natAbs}
 use mir.Syntax.{w16}
 use Rattle.arith.proofs.Exact.{Is, given, kept}
-use Rattle.observation.specs.declared.Sample.{Sample}
-use Rattle.observation.specs.Observed.{Ranged}
-use Rattle.observation.specs.Joining.{energyOf}
 use Rattle.observation.proofs.Antennas.{energy-small}
 
 pub returns : need.returns

@@ -8,7 +8,7 @@ use mir.Val.{Fits}
 use Rattle.arith.proofs.Exact.{Is, Known, arg, keep, know, fits, _⊕_}
 use Rattle.observation.specs.declared.Sample.{Sample}
 use Rattle.observation.specs.Observed.{Ranged}
-use Rattle.observation.specs.Joining.{productOf, conjugated, Conjugate, energyOf}
+use Rattle.observation.specs.Joining.{productOf, conjugated, Conjugate}
 use Rattle.observation.proofs.Antennas.{re-small, im-small, energy-small, conjugate-ranged}
 
 -- a part so far and the new one: both within bounds

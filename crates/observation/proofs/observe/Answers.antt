@@ -1,10 +1,9 @@
 use Rattle.observation.proofs.observe.Needs as need
-use Prim.Native.Nat.{ℕ, _+_, _*_, _≤_, _<_}
+use Prim.Native.Nat.{ℕ, _*_, _≤_}
 use native.Mathlib.Omega.{arith}
-use mathlib.Core.Path.{_≡_, refl, sym, ap, ap₂, _∙_, subst}
+use mathlib.Core.Path.{_≡_, ap, ap₂, _∙_}
 use mathlib.Core.List.{List}
-use lib.IntN.{ℤ, pos, natAbs}
-use lib.ListN.{length, getD, take}
+use lib.IntN.{pos, natAbs}
 use Rattle.std.proofs.shelf.Elements.{all-getD}
 use Rattle.std.proofs.shelf.Lists.{take-all}
 use Rattle.observation.specs.declared.Sample.{Sample}

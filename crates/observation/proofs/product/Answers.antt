@@ -1,6 +1,6 @@
 use Rattle.observation.proofs.product.Needs as need
-use Prim.Native.Nat.{ℕ, _≤_}
-use mathlib.Core.Path.{_≡_, ap₂}
+use Prim.Native.Nat.{_≤_}
+use mathlib.Core.Path.{ap₂}
 use lib.IntN.{ℤ, natAbs}
 use mir.Syntax.{w16, w32}
 use Rattle.arith.proofs.Exact.{Known, arg, keep, fits, _⊗_, _⊕_, _⊖_}

@@ -1,16 +1,15 @@
 use Rattle.detect.proofs.pass.bests.Needs as need
 use Prim.Native.Nat.{ℕ, _+_, _≤_, _<_}
 use native.Mathlib.Omega.{arith}
-use mathlib.Core.Path.{_≡_, refl, sym, ap, _∙_, subst}
+use mathlib.Core.Path.{_≡_, refl, _∙_, subst}
 use mathlib.Core.Logic.{_≢_}
 use mathlib.Core.List.{List, [], _∷_}
 use borrow.Author.Count.{below-more}
-use lib.ListN.{getD, length, take, set, length-set, replicate}
+use lib.ListN.{getD, length, set, length-set}
 use lib.Seq.{getD-set-same, getD-set-other}
 use lib.Dec.{lit≤}
 use lib.IntN.{ℤ, pos}
 use mir.Syntax.{w64}
-use Rattle.std.specs.shelf.Lists.{All}
 use Rattle.std.proofs.shelf.Elements.{all-getD, all-set}
 use Rattle.std.proofs.shelf.Lists.{take-all}
 use Rattle.constellation.specs.declared.Point.{Point}

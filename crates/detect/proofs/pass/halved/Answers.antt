@@ -1,9 +1,9 @@
 use Rattle.detect.proofs.pass.halved.Needs as need
 use Rattle.detect.proofs.pass.halved.Needs.{then-k-i-eq1, else-k-i-eq1}
-use Prim.Native.Nat.{ℕ, suc, _+_, _/_, _%_, _^_, _≤_, _<_}
+use Prim.Native.Nat.{ℕ, _+_, _/_, _%_, _^_, _≤_}
 use native.Mathlib.Omega.{arith}
 use native.Mathlib.Numerals.{add-one}
-use mathlib.Core.Path.{_≡_, refl, sym, ap, ap₂, _∙_, subst}
+use mathlib.Core.Path.{_≡_, refl, sym, ap, _∙_, subst}
 use mathlib.Core.Bool.{Bool, true, false, cond, Bool·beq}
 use mathlib.Core.List.{List}
 use Rattle.std.specs.Numbers.{maxZ}
@@ -11,10 +11,10 @@ use Rattle.std.proofs.shelf.Signed.{ints, clamps}
 use Rattle.std.proofs.shelf.Ways.{tells}
 use Rattle.std.proofs.shelf.Elements.{all-getD}
 use lib.Dec.{lit≤, eqb}
-use lib.ListN.{getD, length}
+use lib.ListN.{getD}
 use lib.IntN.{ℤ, pos, natAbs}
 use mir.Syntax.{w64}
-use Rattle.detect.specs.Tops.{lowest, Held}
+use Rattle.detect.specs.Tops.{lowest}
 use Rattle.detect.specs.Buckets.{overCodes}
 use Rattle.arith.proofs.Exact.{Is, given, equal, kept, topmost, small}
 use Rattle.detect.proofs.Topping.{both}

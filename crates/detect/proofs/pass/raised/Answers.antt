@@ -1,7 +1,4 @@
 use Rattle.detect.proofs.pass.raised.Needs as need
-use Prim.Native.Nat.{ℕ, _≤_}
-use mathlib.Core.Path.{_≡_}
-use lib.IntN.{ℤ, pos, natAbs}
 use mir.Syntax.{w64}
 use Rattle.arith.proofs.Exact.{Is, given, fits, kept, plus, minus, sized, topmost, looser, small}
 use Rattle.detect.proofs.Topping.{both}

@@ -1,22 +1,21 @@
 use Rattle.detect.proofs.submetric.prior_sum.Needs as need
 use Rattle.detect.proofs.submetric.prior_sum.Needs.{then-bit-at, else-bit-at}
-use Prim.Native.Nat.{ℕ, suc, _+_, _*_, _^_, _≤_, _<_}
+use Prim.Native.Nat.{ℕ, _+_, _*_, _≤_, _<_}
 use native.Mathlib.Omega.{arith}
 use native.Mathlib.Numerals.{add-one}
 use mathlib.Core.Path.{_≡_, refl, sym, ap, _∙_}
 use mathlib.Core.Bool.{Bool, true, false, cond}
 use mathlib.Core.List.{List}
-use lib.ListN.{getD, length, take}
+use lib.ListN.{getD}
 use lib.IntN.{ℤ, pos, _+ℤ_, natAbs}
 use mir.Syntax.{w16, w64}
-use mir.Val.{SFits, toZ, ofZ}
+use mir.Val.{toZ, ofZ}
 use Rattle.std.proofs.shelf.Signed.{ints}
-use Rattle.std.proofs.shelf.Lists.{take-all}
 use Rattle.std.proofs.shelf.Elements.{all-getD}
 use Rattle.metric.specs.Exhaustive.{sumTo, labelBit, atBit}
 use Rattle.metric.proofs.Loops.{sum-more}
 use Rattle.detect.specs.Parts.{priorSum}
-use Rattle.arith.proofs.Exact.{Is, given, equal, fits, kept, plus}
+use Rattle.arith.proofs.Exact.{Is, given, kept, plus}
 
 -- one bit more
 priorSum-more : (m label : ℕ) (xs : List ℤ) (j : ℕ) (b : Bool) → labelBit m label (j + 1) ≡ b →

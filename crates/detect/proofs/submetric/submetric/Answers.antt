@@ -1,17 +1,15 @@
 use Rattle.detect.proofs.submetric.submetric.Needs as need
-use Prim.Native.Nat.{ℕ, zero, suc, _+_, _-_, _*_, _^_, _≤_, _<_}
+use Prim.Native.Nat.{ℕ, zero, suc, _-_, _^_, _≤_}
 use native.Mathlib.Omega.{arith}
-use native.Mathlib.Numerals.{add-one, sub-one}
-use mathlib.Core.Path.{_≡_, refl, sym, ap, ap₂, _∙_}
+use native.Mathlib.Numerals.{sub-one}
+use mathlib.Core.Path.{_≡_, _∙_}
 use mathlib.Core.List.{List}
-use lib.ListN.{getD, length}
+use lib.ListN.{getD}
 use lib.IntN.{ℤ, pos, natAbs}
 use mir.Syntax.{w16, w32, w64}
-use mir.Val.{SFits, toZ, ofZ}
-use Rattle.std.proofs.shelf.Signed.{ints}
 use Rattle.std.proofs.shelf.Elements.{all-getD}
 use Rattle.metric.specs.Exhaustive.{atBit}
-use Rattle.detect.specs.Parts.{middle, turn, weight, Turning, Given}
+use Rattle.detect.specs.Parts.{middle, turn, Given}
 use Rattle.arith.proofs.Exact.{Is, given, equal, counted, kept, small}
 
 abbrev Small : ℤ → Type 0

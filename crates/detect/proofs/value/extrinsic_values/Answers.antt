@@ -2,11 +2,11 @@ use Rattle.detect.proofs.value.extrinsic_values.Needs as need
 use Prim.Native.Nat.{ℕ, zero, suc, _+_, _^_, _≤_, _<_}
 use native.Mathlib.Omega.{arith}
 use native.Mathlib.Numerals.{add-one}
-use mathlib.Core.Path.{_≡_, refl, sym, ap, _∙_}
+use mathlib.Core.Path.{_≡_, refl, ap, _∙_}
 use mathlib.Core.Logic.{_≢_}
-use mathlib.Core.List.{List, [], _∷_, map}
+use mathlib.Core.List.{List, _∷_, map}
 use borrow.Author.Count.{below-more}
-use lib.ListN.{getD, length, set, take}
+use lib.ListN.{getD, length, set}
 use lib.Seq.{getD-set-same, getD-set-other}
 use lib.IntN.{ℤ, pos, _-ℤ_, natAbs}
 use mir.Syntax.{w16, w64}
@@ -17,9 +17,8 @@ use Rattle.std.proofs.shelf.Signed.{toZ-ofZ}
 use Rattle.std.proofs.shelf.Elements.{all-getD, all-weaker}
 use Rattle.std.proofs.shelf.Counted.{fill-by-all}
 use Rattle.arith.proofs.Exact.{Is, given, kept, small}
-use Rattle.constellation.specs.declared.Point.{Point}
 use Rattle.constellation.specs.Meaning.{Meaning, Lawful, Good}
-use Rattle.metric.specs.Exhaustive.{Symbol, atBit}
+use Rattle.metric.specs.Exhaustive.{atBit}
 use Rattle.metric.specs.Value.{extrinsicValue}
 use Rattle.observation.specs.declared.Record.{Record}
 use Rattle.observation.specs.Observed.{held}

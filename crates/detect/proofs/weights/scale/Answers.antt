@@ -1,8 +1,7 @@
 use Rattle.detect.proofs.weights.scale.Needs as need
-use Prim.Native.Nat.{ℕ, _*_, _%_, _^_, _≤_}
+use Prim.Native.Nat.{_^_, _≤_}
 use native.Mathlib.Omega.{arith}
-use mathlib.Core.Path.{_≡_, ap, _∙_}
-use lib.IntN.{ℤ, pos, natAbs}
+use mathlib.Core.Path.{ap, _∙_}
 use lib.Pow.{pow-mono}
 use mir.Syntax.{w64}
 use mir.Val.{toZ}

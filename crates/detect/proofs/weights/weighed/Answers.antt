@@ -1,8 +1,6 @@
 use Rattle.detect.proofs.weights.weighed.Needs as need
-use Prim.Native.Nat.{ℕ, _*_, _/_, _^_, _≤_, _<_}
+use Prim.Native.Nat.{ℕ, _*_, _≤_}
 use native.Mathlib.Omega.{arith}
-use mathlib.Core.Path.{_≡_}
-use lib.IntN.{ℤ, pos}
 use mir.Syntax.{w64}
 use Rattle.std.proofs.shelf.Bits.{div-below}
 use Rattle.detect.specs.Parts.{weight}

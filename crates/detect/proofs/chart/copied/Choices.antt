@@ -1,4 +1,4 @@
-use Rattle.detect.proofs.chart.Chart.of.Given as given
+use Rattle.detect.proofs.chart.copied.Given as given
 use mathlib.Core.Path.{_≡_}
 use lib.ListN.{take, length}
 
