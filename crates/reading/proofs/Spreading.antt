@@ -20,7 +20,7 @@ use Rattle.observation.specs.Observed.{held}
 use Rattle.protocol.specs.Verdicts.{Verdict, accepted, inside, upTo}
 use Rattle.protocol.specs.Calls.{Placed, State, Outline, Call, tell, verdict, outline, atSymbol, told, spread, withSymbols, leaves}
 use Rattle.protocol.specs.Stands.{Stands, placedImage, image, erasedRecord}
-use Rattle.table.proofs.Fronts.{front-take, front-drop}
+use Rattle.protocol.proofs.Fronts.{front-take, front-drop}
 use Rattle.burst.specs.Public.{Called}
 use Rattle.burstfile.specs.Values.{within}
 use Rattle.burstfile.specs.Reading.{signedsOf}

@@ -8,7 +8,7 @@ use Rattle.std.proofs.shelf.Results.{err-from-errBy}
 use Rattle.catalogue.specs.Modes.{catalogueMeaning}
 use Rattle.catalogue.specs.declared.Catalogue.{Catalogue}
 use Rattle.burst.specs.Public.{closedKept}
-use Rattle.burst.proofs.Rows.{table-room}
+use Rattle.soft.proofs.Rows.{table-room}
 use Rattle.burstfile.specs.Values.{readSpec}
 use Rattle.reading.proofs.Judging.{apart}
 use Rattle.reading.proofs.Sheeting.{turn-given, turn-withdrawn, demapped}

@@ -12,7 +12,7 @@ use Rattle.table.specs.declared.table.Table.{Table}
 use Rattle.protocol.specs.Verdicts.{Verdict}
 use Rattle.protocol.specs.Calls.{Call}
 use Rattle.burst.specs.Public.{closedKept, Called}
-use Rattle.burst.proofs.Rows.{row-room}
+use Rattle.soft.proofs.Rows.{row-room}
 use Rattle.burstfile.specs.Reading.{signedsOf}
 use Rattle.burstfile.proofs.Walks.{halves}
 use Rattle.reading.proofs.Spreading.{told-accepted, told-step, told-end, told-none}
