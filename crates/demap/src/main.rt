@@ -11,18 +11,27 @@ use std::io::Read;
 /// The most bytes that are read.
 const LONGEST: usize = 16384;
 
-/// One line a symbol.
+/// One line a symbol: the sheet has `m` values of each.
 fn show(rt: &impl Print, sheet: &[i16], symbols: usize, m: usize) -> io::Result<()> {
     println!(rt, "{symbols} {m}")?;
+    let mut rest = sheet;
     for i in 0..symbols {
-        let number = i + 1;
-        print!(rt, "{number}")?;
-        for value in sheet.iter().skip(i * m).take(m) {
-            print!(rt, " {value}")?;
-        }
-        println!(rt, "")?;
+        let Some((values, after)) = rest.split_at_checked(m) else {
+            return Ok(());
+        };
+        show_symbol(rt, i + 1, values)?;
+        rest = after;
     }
     Ok(())
+}
+
+/// A symbol's number and its values.
+fn show_symbol(rt: &impl Print, number: usize, values: &[i16]) -> io::Result<()> {
+    print!(rt, "{number}")?;
+    for value in values {
+        print!(rt, " {value}")?;
+    }
+    println!(rt, "")
 }
 
 /// A file that is longer than any burst's is refused as bytes after the longest one's end.
