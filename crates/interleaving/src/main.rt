@@ -1,10 +1,12 @@
-//! Interleaves soft values in a table of four rows, deinterleaves them again and pages them.
+//! Takes a burst's extrinsic values, interleaves them in a table of four rows and three columns, deinterleaves them again and pages them.
 
 ghost use mathlib.Core.Path.{_≡_};
 ghost use Rattle.std.specs.declared.result.Result.the-variants.{Ok};
 ghost use Rattle.std.specs.shelf.Lists.{joined};
 ghost use Rattle.sheet.specs.Bytes.{word16, bytes16};
 ghost use Rattle.sheet.specs.Order.{interleaved};
+use burstfile::FileRefusalDisplay;
+use reading::demap;
 use refusal::Refusal;
 use refusal::RefusalDisplay;
 use sheet::Sheet;
@@ -23,23 +25,69 @@ fn spread(values: &mut [i16], out: &mut [i16], bytes: &mut [u8]) -> Result<(), R
     sheet.page(bytes)
 }
 
+/// A burst file: PSK 8, shift 24, one antenna, four symbols of weight 1, no a priori values.
+const FILE: [u8; 48] = [
+    2,
+    2,
+    24,
+    1,
+    0,
+    4,
+    0,
+    1,
+    0,
+    100,
+    0,
+    50,
+    0,
+    100,
+    0,
+    0,
+    0,
+    1,
+    255,
+    166,
+    0,
+    40,
+    0,
+    100,
+    0,
+    0,
+    0,
+    1,
+    0,
+    30,
+    255,
+    176,
+    0,
+    100,
+    0,
+    0,
+    0,
+    1,
+    255,
+    196,
+    255,
+    186,
+    0,
+    80,
+    0,
+    20,
+    0,
+    0,
+];
+
 fn main(rt: LibcRuntime) -> io::Result<()> {
-    let mut values = [
-        -884i16,
-        -1768,
-        0,
-        820,
-        0,
-        -5104,
-        -2113,
-        1295,
-        8191,
-        -8191,
-        -90,
-        91,
-    ];
+    let mut soft = [0i16; 1024];
+    match demap(&FILE, &mut soft) {
+        Ok((symbols, m)) => println!(rt, "a burst of {symbols} symbols of {m} positions")?,
+        Err(refusal) => return println!(rt, "{refusal}"),
+    }
+    let mut values = [0i16; 12];
+    values.copy_from_slice(&soft[0..12]);
     let mut out = [0i16; 12];
     let mut bytes = [0u8; 24];
+    println!(rt, "extrinsic values {values:?}")?;
     if let Err(refusal) = spread(&mut values, &mut out, &mut bytes) {
         return println!(rt, "refused {refusal}");
     }
