@@ -4,7 +4,7 @@ ghost use mathlib.Core.Path.{_≡_};
 ghost use Prim.Native.Nat.{_+_, _*_, _≤_, _<_};
 ghost use lib.ListN.{length};
 ghost use Rattle.protocol.specs.Calls.{verdict, tell as telling, answer as answering, withdraw as withdrawing, erase as erasing, read as looking, decide as deciding, taking, ours};
-ghost use Rattle.table.specs.Kept.{over, view, fresh, outlined, tellLeft, answerLeft, withdrawLeft, eraseLeft, issued, returned};
+ghost use Rattle.table.specs.Kept.{over, view, fresh, outlined, tellLeft, answerLeft, withdrawLeft, eraseLeft, issued, returned, idle};
 ghost use Rattle.std.specs.shelf.Lists.{leading};
 ghost use Rattle.observation.specs.Sizes.{measured as fits};
 use crate::range::in_range;
@@ -115,6 +115,13 @@ impl Table {
         self.out && turn.burst == self.number && turn.number == self.given
     }
 
+    /// The turn that was out is out no more.
+    fn end_turn(&mut self)
+        ensures { λ _. ⌜ view (now (self .exit)) ≡ idle (view (now (self .entry))) ⌝ }
+    {
+        self.out = false;
+    }
+
     /// Replaces all a priori values. A refused answer gives the turn back.
     pub fn answer(&mut self, m: u8, turn: Turn, values: &[i16]) -> Result<(), (Turn, Refusal)>
         requires { ⌜ m ≤ 8 ⌝ }
@@ -136,7 +143,7 @@ impl Table {
             number: _,
         } = turn;
         put(&mut self.priors, 0, values);
-        self.out = false;
+        self.end_turn();
         Ok(())
     }
 
@@ -153,7 +160,7 @@ impl Table {
         if !ours {
             return Err(Cause::Foreign.at(0));
         }
-        self.out = false;
+        self.end_turn();
         Ok(())
     }
 
