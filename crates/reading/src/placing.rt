@@ -24,6 +24,9 @@ use catalogue::CatalogueConstellation;
 use observation::Sample;
 use refusal::Refusal;
 
+/// The last mode that is placed coherently.
+const COHERENT: u8 = 8;
+
 /// The pairs of a vector as samples, in front of four.
 fn samples(pairs: &[u8]) -> [Sample; 4]
     requires { ⌜ length (now pairs) ≤ 16 ⌝ }
@@ -50,7 +53,7 @@ pub fn place_record(
 {
     let y = samples(record.y);
     let y_len = record.y.len() / 4;
-    if mode <= 8 {
+    if mode <= COHERENT {
         let h = samples(record.h);
         let h_len = record.h.len() / 4;
         burst.place(&y[..y_len], &h[..h_len], record.weight)

@@ -11,10 +11,10 @@ use Rattle.burstfile.specs.Reading.{shown}
 use Rattle.reading.specs.Held.{placingOf}
 use Rattle.reading.proofs.placing.place_record.Needs as need
 
-pub returns-then-mode-le8 : need.returns-then-mode-le8
-returns-then-mode-le8 c =
+pub returns-then-mode-le-COHERENT : need.returns-then-mode-le-COHERENT
+returns-then-mode-le-COHERENT c =
     let v = c .args .record in
-    let b : leb (c .args .mode) 8 ≡ true = le-leb (c .args .mode) 8 (c .if-mode-le8 .taken) in
+    let b : leb (c .args .mode) 8 ≡ true = le-leb (c .args .mode) 8 (c .if-mode-le-COHERENT .taken) in
     let k = openKept (catalogueMeaning (c .args .burst .now .c)) (c .args .burst .now .draft) in
     let k′ = openKept (catalogueMeaning (c .args .burst .now .c)) (c .place .last .self .draft) in
     let y = c .samples-y .ensures in
@@ -23,10 +23,10 @@ returns-then-mode-le8 c =
     = rw (b, y, h) in
     record { placed = subst (λ (p : Placing). PlacedBy k p (c .place .result) k′) e (c .place .ensures .placed); same = c .place .ensures .same }
 
-pub returns-else-mode-le8 : need.returns-else-mode-le8
-returns-else-mode-le8 c =
+pub returns-else-mode-le-COHERENT : need.returns-else-mode-le-COHERENT
+returns-else-mode-le-COHERENT c =
     let v = c .args .record in
-    let b : leb (c .args .mode) 8 ≡ false = lt-leb (c .args .mode) 8 (c .if-mode-le8 .left) in
+    let b : leb (c .args .mode) 8 ≡ false = lt-leb (c .args .mode) 8 (c .if-mode-le-COHERENT .left) in
     let k = openKept (catalogueMeaning (c .args .burst .now .c)) (c .args .burst .now .draft) in
     let k′ = openKept (catalogueMeaning (c .args .burst .now .c)) (c .place-differential .last .self .draft) in
     let y = c .samples-y .ensures in
