@@ -30,6 +30,7 @@ use Rattle.burstfile.specs.declared.refused.FileRefusal.{FileRefusal}
 use Rattle.burstfile.specs.Format.{Pair, Vector, Contents, symbolsOf}
 use Rattle.burstfile.specs.Values.{valuesFault, numberedFault, priorsFault}
 
+-- the pairs of a file as samples
 abbrev pub sampleOf : Pair → Sample
 sampleOf p = record { re = p .re; im = p .im }
 

@@ -18,6 +18,7 @@ use Rattle.protocol.specs.Placings.{Placing, opened, openVerdict}
 use Rattle.protocol.specs.Stands.{StandsOpen}
 use Rattle.burst.specs.Public.{openKept, PlacedBy}
 use Rattle.burstfile.specs.declared.refused.FileRefusal.{FileRefusal}
+use Rattle.burstfile.specs.Refused.{numbered}
 use Rattle.burstfile.specs.Format.{channelOf, symbolsOf}
 use Rattle.burstfile.specs.Reading.{laid, contentsOf, shown}
 use Rattle.burstfile.specs.Values.{orElse, numberedFault, priorsFault, vectorsFault, valuesFault}
@@ -64,7 +65,8 @@ loop-i-again c =
     let d′ = c .place-record .last .burst .draft in
     let P = moved (c .loop-i .burst .c) (b .c) d d′ (placingOf (f .settings .mode) v) r (c .loop-i .inv .1) (c .place-record .ensures .placed) in
     let lt : i < length (C .vectors) = omega (arith, c .pre .whole .vectors, c .loop-i-test .taken) in
-    let ok : r ≡ Ok tt = numbered-ok (i + 1) r (c .in-record .result) (c .in-Continue-in-record .field-0) (c .in-record .ensures) (c .in-Continue-in-record .was tt) in (
+    let said : c .in-record .result ≡ numbered (i + 1) r = c .in-record .ensures ∙ ap (λ (n : ℕ). numbered n r) (c .number-of .ensures) in
+    let ok : r ≡ Ok tt = numbered-ok (i + 1) r (c .in-record .result) (c .in-Continue-in-record .field-0) said (c .in-Continue-in-record .was tt) in (
       along-step C (c .pre .shape) (opened (catalogueMeaning (b .c)) (c .args .number) (f .settings .shift)) i (openKept (catalogueMeaning (b .c)) d) (openKept (catalogueMeaning (b .c)) d′) v r lt (c .record-record .ensures .entry) (c .loop-i .inv .0) P ok,
       c .place-record .ensures .same ∙ c .loop-i .inv .1,
     )
@@ -81,7 +83,8 @@ returns-in-Break-in-record c =
     let d′ = c .place-record .last .burst .draft in
     let P = moved (c .loop-i .burst .c) (b .c) d d′ (placingOf (f .settings .mode) v) r (c .loop-i .inv .1) (c .place-record .ensures .placed) in
     let lt : i < length (C .vectors) = omega (arith, c .pre .whole .vectors, c .loop-i-test .taken) in
-    let e = numbered-err (i + 1) r (c .in-record .result) (c .in-Break-in-record .field-0 .0) (c .in-record .ensures) (c .in-Break-in-record .was tt) in
+    let said : c .in-record .result ≡ numbered (i + 1) r = c .in-record .ensures ∙ ap (λ (n : ℕ). numbered n r) (c .number-of .ensures) in
+    let e = numbered-err (i + 1) r (c .in-record .result) (c .in-Break-in-record .field-0 .0) said (c .in-Break-in-record .was tt) in
     let refused = along-refused C (c .pre .shape) (opened (catalogueMeaning (b .c)) (c .args .number) (f .settings .shift)) i (openKept (catalogueMeaning (b .c)) d) (openKept (catalogueMeaning (b .c)) d′) v r lt (c .record-record .ensures .entry) (c .loop-i .inv .0) P (e .0) (e .2) in
     let o = c .in-Continue-burst .ensures tt in
     let fault : valuesFault C ≡ Some (c .in-Break-in-record .field-0 .0)

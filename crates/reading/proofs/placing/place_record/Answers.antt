@@ -1,9 +1,8 @@
-use mathlib.Core.Path.{_≡_, subst}
+use mathlib.Core.Path.{_≡_, sym, subst, _∙_}
 use mathlib.Core.Bool.{true, false}
 use lib.Dec.{leb}
 use lib.ListN.{length, take}
 use Prim.Native.Nat.{_/_}
-use Rattle.std.proofs.shelf.Tests.{le-leb, lt-leb}
 use Rattle.protocol.specs.Placings.{Placing, coherent, differential}
 use Rattle.burst.specs.Public.{PlacedBy, openKept}
 use Rattle.catalogue.specs.Modes.{catalogueMeaning}
@@ -11,10 +10,10 @@ use Rattle.burstfile.specs.Reading.{shown}
 use Rattle.reading.specs.Held.{placingOf}
 use Rattle.reading.proofs.placing.place_record.Needs as need
 
-pub returns-then-mode-le-COHERENT : need.returns-then-mode-le-COHERENT
-returns-then-mode-le-COHERENT c =
+pub returns-then-is-coherent : need.returns-then-is-coherent
+returns-then-is-coherent c =
     let v = c .args .record in
-    let b : leb (c .args .mode) 8 ≡ true = le-leb (c .args .mode) 8 (c .if-mode-le-COHERENT .taken) in
+    let b : leb (c .args .mode) 8 ≡ true = sym (c .is-coherent .ensures) ∙ c .if-is-coherent .taken in
     let k = openKept (catalogueMeaning (c .args .burst .now .c)) (c .args .burst .now .draft) in
     let k′ = openKept (catalogueMeaning (c .args .burst .now .c)) (c .place .last .self .draft) in
     let y = c .samples-y .ensures in
@@ -23,10 +22,10 @@ returns-then-mode-le-COHERENT c =
     = rw (b, y, h) in
     record { placed = subst (λ (p : Placing). PlacedBy k p (c .place .result) k′) e (c .place .ensures .placed); same = c .place .ensures .same }
 
-pub returns-else-mode-le-COHERENT : need.returns-else-mode-le-COHERENT
-returns-else-mode-le-COHERENT c =
+pub returns-else-is-coherent : need.returns-else-is-coherent
+returns-else-is-coherent c =
     let v = c .args .record in
-    let b : leb (c .args .mode) 8 ≡ false = lt-leb (c .args .mode) 8 (c .if-mode-le-COHERENT .left) in
+    let b : leb (c .args .mode) 8 ≡ false = sym (c .is-coherent .ensures) ∙ c .if-is-coherent .left in
     let k = openKept (catalogueMeaning (c .args .burst .now .c)) (c .args .burst .now .draft) in
     let k′ = openKept (catalogueMeaning (c .args .burst .now .c)) (c .place-differential .last .self .draft) in
     let y = c .samples-y .ensures in

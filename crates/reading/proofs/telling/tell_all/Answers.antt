@@ -46,9 +46,6 @@ tell-symbol-requires c κs =
       within = w .0;
     }
 
-pub loop-i-holds : need.loop-i-holds
-loop-i-holds c = (refl, refl)
-
 pub loop-i-again : need.loop-i-again
 loop-i-again c =
     let b = c .args .burst .now in
