@@ -1,5 +1,7 @@
 //! Bursts: symbols are placed into an open burst, and a closed one answers what is asked of it, turn by turn.
 
+#![tactic(auto)]
+
 mod burst;
 mod closed;
 mod open;

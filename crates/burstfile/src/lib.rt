@@ -1,6 +1,8 @@
 //! The burst file: its sections as parts of its bytes, the first that is wrong with them, and the numbers that they hold.
 //! Opening a burst from a file, which refuses values out of range, is left to the crate above.
 
+#![tactic(auto)]
+
 mod layout;
 mod numbers;
 mod records;

@@ -1,5 +1,7 @@
 //! The catalogue: one type for the ten constellations that a burst file can name.
 
+#![tactic(auto)]
+
 ghost use Rattle.catalogue.specs.Modes.{mode_meaning, catalogue_meaning, Offered, fitted};
 ghost use Rattle.kinds.specs.Psks.{psk_meaning};
 ghost use Rattle.rings.specs.Made.{ring_plan, ratio_plan};

@@ -1,5 +1,7 @@
 //! What a constellation is, for whoever detects over it: a trait with a written meaning and laws.
 
+#![tactic(auto)]
+
 ghost use Rattle.std.specs.Prelude.{◌≡◌, ℕ, length};
 ghost use Rattle.constellation.specs.Meaning.{Meaning, Lawful, Good, nth};
 

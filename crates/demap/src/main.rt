@@ -1,6 +1,8 @@
 //! Prints the extrinsic values of the burst file on standard input: how many symbols there are and how many positions each has,
 //! then a line for each symbol, its number from 1 and its values. A refused file prints its refusal.
 
+#![tactic(auto)]
+
 use reading::demap;
 use refusal::Cause;
 use std::io;

@@ -1,5 +1,7 @@
 //! Soft detection of one symbol: extrinsic values from what its record keeps, by a single pass over the quadrant points.
 
+#![tactic(auto)]
+
 pub mod chart;
 mod pass;
 mod submetric;

@@ -1,5 +1,7 @@
 //! Takes a burst's extrinsic values, interleaves them in a table of four rows and three columns, deinterleaves them again and pages them.
 
+#![tactic(auto)]
+
 ghost use Rattle.std.specs.Prelude.{◌≡◌, Ok};
 ghost use Rattle.std.specs.List.{flat_map};
 ghost use Rattle.sheet.specs.Bytes.{word16, bytes16};

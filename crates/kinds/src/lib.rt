@@ -1,5 +1,7 @@
 //! The two kinds of constellation that layers stand on: points on one circle, and points on a square grid.
 
+#![tactic(auto)]
+
 mod gray;
 pub mod psk;
 pub mod square;

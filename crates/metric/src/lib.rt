@@ -1,6 +1,8 @@
 //! The exhaustive detector over any constellation, in mathematics: what the values are (`specs`), and theorems on them.
 //! Each function here states one theorem in its contract, and returns 0.
 
+#![tactic(auto)]
+
 ghost use Rattle.metric.specs.Exhaustive.{Answers};
 ghost use Rattle.metric.specs.Reduced.{Reduces, SameValue};
 ghost use Rattle.metric.specs.Bounds.{Independent, Bounded};

@@ -1,5 +1,7 @@
 //! What is kept of a symbol: from its received and reference vectors, the few numbers that detection needs.
 
+#![tactic(auto)]
+
 ghost use Rattle.std.specs.Prelude.{◌≡◌, ◌≤◌, [], length};
 ghost use Rattle.std.specs.List.{AllByRecursion as All};
 ghost use Rattle.observation.specs.Observed.{Ranged, Measured, held, symbol_of};

@@ -1,5 +1,7 @@
 //! A layer over any constellation: the bits of the label in another order.
 
+#![tactic(auto)]
+
 mod list;
 
 ghost use Rattle.order.specs.Once.{TestStands};

@@ -1,5 +1,7 @@
 //! Layers piled on kinds and on one another, run on examples.
 
+#![tactic(auto)]
+
 #[cfg(test)]
 mod tests {
     use constellation::Constellation;

@@ -1,5 +1,7 @@
 //! A burst from a file, and the extrinsic values of the burst that a file holds.
 
+#![tactic(auto)]
+
 mod files;
 mod placing;
 mod sheets;

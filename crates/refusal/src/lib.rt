@@ -1,5 +1,7 @@
 //! Why a call is refused: a cause, which has a number, and the place that it speaks of.
 
+#![tactic(auto)]
+
 ghost use Rattle.std.specs.Prelude.{◌≡◌, Some};
 ghost use Rattle.refusal.specs.Numbers.{number_of, refusal_text};
 

@@ -1,5 +1,7 @@
 //! Two layers over any constellation: its points on several rings, and at several ratios to the symbol before.
 
+#![tactic(auto)]
+
 mod layer;
 mod plan;
 mod ratios;

@@ -1,5 +1,7 @@
 //! A table of rows and columns over memory that is lent to it: wiped, interleaved, deinterleaved and paged.
 
+#![tactic(auto)]
+
 mod blank;
 mod calls;
 mod element;

@@ -1,5 +1,7 @@
 //! Users of the tables, over their public interface: what a caller knows of its own memory afterwards, and examples that run.
 
+#![tactic(auto)]
+
 ghost use Rattle.std.specs.Prelude.{◌≡◌, ◌*◌, length, replicate, pos};
 ghost use Rattle.sheet.specs.Calls.{after, fitting, verdict};
 ghost use Rattle.sheet.specs.Order.{deinterleaved};

@@ -1,5 +1,7 @@
 //! The extrinsic values of a closed burst's symbols.
 
+#![tactic(auto)]
+
 ghost use Rattle.std.specs.Prelude.{◌≡◌, ◌*◌, ◌<◌, ◌≤◌, map, length, take, drop, pos, ◌+ℤ◌, if◌then◌else◌, int_lt, slice_index_or};
 ghost use Rattle.std.specs.List.{range_with_len, flat_map};
 ghost use Rattle.constellation.specs.Meaning.{Lawful};

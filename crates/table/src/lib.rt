@@ -1,5 +1,7 @@
 //! The inner table of a closed burst: a record of each symbol, the standing a priori values, and the turns.
 
+#![tactic(auto)]
+
 mod edits;
 mod range;
 mod table;

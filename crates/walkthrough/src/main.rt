@@ -1,5 +1,7 @@
 //! Plays two bursts through their public calls and prints each call with its reply.
 
+#![tactic(auto)]
+
 mod far;
 mod placing;
 mod say;
