@@ -4,9 +4,9 @@ use Rattle.burstfile.proofs.layout.sections.Goals as goal
 pub returns : goal.returns
 returns c =
     let bs = c.args.bytes.now in
-    let r = c.take-sections.result in
+    let r = c.take_sections.result in
     record {
-      cuts = c.take-sections.ensures;
-      whole = whole_sections bs r c.take-sections.ensures;
-      format = shaped_sections bs r c.are-bytes.ensures c.take-sections.ensures;
+      cuts = c.take_sections.ensures;
+      whole = whole_sections bs r c.take_sections.ensures;
+      format = shaped_sections bs r c.are_bytes.ensures c.take_sections.ensures;
     }

@@ -6,14 +6,14 @@ use Rattle.burstfile.proofs.view.File.record.Goals as goal
 pub part-requires : goal.part-requires
 part-requires c =
     let f = c.args.self.now in
-    row_within f.count c.args.i (size_of (laid f)) c.record-size-size.result f.records.now c.requires.within c.requires.whole.records c.record-size-size.ensures
+    row_within f.count c.args.i (size_of (laid f)) c.record_size-size.result f.records.now c.requires.within c.requires.whole.records c.record_size-size.ensures
 
 pub returns : goal.returns
 returns c =
     let f = c.args.self.now in
-    let v = c.record-view.result in
+    let v = c.record_view.result in
     record {
-      entry = cc (c.record-view.ensures.entry, c.part.ensures.value, c.record-size-size.ensures, vector-at f.count c.args.i (size_of (laid f)) f.settings.antennas f.records.now (shown v) c.requires.within);
-      y = c.record-view.ensures.y;
-      h = omega (arith, c.part.ensures.long, c.record-size-size.ensures, c.record-view.ensures.y, c.record-view.ensures.h);
+      entry = cc (c.record_view.ensures.entry, c.part.ensures.value, c.record_size-size.ensures, vector-at f.count c.args.i (size_of (laid f)) f.settings.antennas f.records.now (shown v) c.requires.within);
+      y = c.record_view.ensures.y;
+      h = omega (arith, c.part.ensures.long, c.record_size-size.ensures, c.record_view.ensures.y, c.record_view.ensures.h);
     }
