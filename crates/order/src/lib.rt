@@ -4,6 +4,8 @@
 
 mod list;
 
+ghost use Rattle.constellation.proofs.OrderLaws.{ordered_lawful};
+ghost use Rattle.constellation.proofs.Points.{good_nth};
 ghost use Rattle.order.specs.Once.{TestStands};
 ghost use Rattle.order.specs.OrderMade.{Ordering, order_meaning};
 
@@ -33,6 +35,10 @@ impl<C: Constellation + Drop> Order<C> {
 
 impl<C: Constellation> Constellation for Order<C> {
     ghost meaning = { order_meaning C.Constellation.meaning };
+
+    ghost lawful = { λ s. ordered_lawful s.list _ (C.Constellation.lawful s.below) };
+
+    ghost good = { λ s n. good_nth _ (ordered_lawful s.list _ (C.Constellation.lawful s.below)) n };
 
     fn m(&self) -> u8 {
         self.below.m()

@@ -11,10 +11,10 @@ fill_step xs ys k v d hx hy is e =
     let s = add-one k in
     cc
 
-pub get_d_map : {X Y : Type 0} (f : X → Y) (xs : List X) (k : ℕ) (d : X) → get_or (map f xs) k (f d) ≡ f (get_or xs k d)
-get_d_map f [] k d = refl
-get_d_map f (x ∷ xs) zero d = refl
-get_d_map f (x ∷ xs) (suc k) d = get_d_map f xs k d
+pub get_or-mapped : {X Y : Type 0} (f : X → Y) (xs : List X) (k : ℕ) (d : X) → get_or (map f xs) k (f d) ≡ f (get_or xs k d)
+get_or-mapped f [] k d = refl
+get_or-mapped f (x ∷ xs) zero d = refl
+get_or-mapped f (x ∷ xs) (suc k) d = get_or-mapped f xs k d
 
 -- four bytes a pair
 quarters : (bs : List ℕ) → (4 * length (pairs_of bs) ≤ length bs) × (length bs ≤ 4 * length (pairs_of bs) + 3)

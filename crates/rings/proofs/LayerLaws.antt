@@ -23,15 +23,15 @@ module _ {R A B : Type 0} (f : R → A → B) (ps : List A) where
   length_joined [] = omega arith
   length_joined (a ∷ rs) = simp (length-append, length-map) (omega (arith, length_joined rs, mul-suc (length ps) (length rs)))
 
-  get_d_joined : (rs : List R) (a b : ℕ) (z : R) (d : B) (e : A) → a < length rs → b < length ps → get_or (flat_map (λ a. map (f a) ps) rs) (a * length ps + b) d ≡ f (get_or rs a z) (get_or ps b e)
-  get_d_joined [] a b z d e h k = absurd (not-suc-le-zero h)
-  get_d_joined (c ∷ rs) zero b z d e h k =
+  get_or-joined : (rs : List R) (a b : ℕ) (z : R) (d : B) (e : A) → a < length rs → b < length ps → get_or (flat_map (λ a. map (f a) ps) rs) (a * length ps + b) d ≡ f (get_or rs a z) (get_or ps b e)
+  get_or-joined [] a b z d e h k = absurd (not-suc-le-zero h)
+  get_or-joined (c ∷ rs) zero b z d e h k =
       let i : b < length (map (f c) ps) = simp length-map k in
       let s : 0 * length ps + b ≡ b = omega arith in
       ap (λ n. get_or (map (f c) ps ++ flat_map (λ a. map (f a) ps) rs) n d) s ∙ get_or_append_left (map (f c) ps) _ d b i ∙ get_or-map (f c) ps b e d k
-  get_d_joined (c ∷ rs) (suc a) b z d e h k =
+  get_or-joined (c ∷ rs) (suc a) b z d e h k =
       let s : suc a * length ps + b ≡ length (map (f c) ps) + (a * length ps + b) = simp length-map (omega (arith, suc-mul a (length ps))) in
-      ap (λ n. get_or (map (f c) ps ++ flat_map (λ a. map (f a) ps) rs) n d) s ∙ get_or-append-add (map (f c) ps) _ (a * length ps + b) d ∙ get_d_joined rs a b z d e (omega arith) k
+      ap (λ n. get_or (map (f c) ps ++ flat_map (λ a. map (f a) ps) rs) n d) s ∙ get_or-append-add (map (f c) ps) _ (a * length ps + b) d ∙ get_or-joined rs a b z d e (omega arith) k
 
 -- the code fits k bits, and the numbers are small enough for the machine
 abbrev Narrow : ℕ → Copied → Type 0
@@ -99,8 +99,8 @@ module _ (k : ℕ) (ts : List Copied) (F : Fair k ts) (M : Meaning) (L : Lawful 
   length-spread : length (spread k ts M.points) ≡ length M.points * length ts
   length-spread = length_joined (copied k) M.points ts
 
-  get_d_spread : (a b : ℕ) → a < length ts → b < length M.points → get_or (spread k ts M.points) (a * length M.points + b) origin ≡ copied k (get_or ts a nothing) (get_or M.points b origin)
-  get_d_spread a b = get_d_joined (copied k) M.points ts a b nothing origin origin
+  get_or-spread : (a b : ℕ) → a < length ts → b < length M.points → get_or (spread k ts M.points) (a * length M.points + b) origin ≡ copied k (get_or ts a nothing) (get_or M.points b origin)
+  get_or-spread a b = get_or-joined (copied k) M.points ts a b nothing origin origin
 
   carried_spread : (l : ℕ) → l < 2 ^ (M.m + k) → bit (M.m + k) M.u l ≡ 0 → bit (M.m + k) M.v l ≡ 0 → Carried (spread k ts M.points) l
   carried_spread l h hu hv =
@@ -112,7 +112,7 @@ module _ (k : ℕ) (ts : List Copied) (F : Fair k ts) (M : Meaning) (L : Lawful 
       let a : ℕ = f.0 in (
         a * length M.points + w.0,
         subst (λ z. a * length M.points + w.0 < z) (sym length-spread) (mul-add-lt a (length M.points) w.0 (length ts) f.1 w.1),
-        ap (λ p. p.label) (get_d_spread a w.0 f.1 w.1) ∙ ap (λ z. z * 2 ^ k + (get_or ts a nothing).code) w.2 ∙ ap (λ z. q * 2 ^ k + z) f.2 ∙ shr_split l k,
+        ap (λ p. p.label) (get_or-spread a w.0 f.1 w.1) ∙ ap (λ z. z * 2 ^ k + (get_or ts a nothing).code) w.2 ∙ ap (λ z. q * 2 ^ k + z) f.2 ∙ shr_split l k,
       )
 
   some_spread : 1 ≤ length M.points * length ts
@@ -177,5 +177,5 @@ module _ (plan : Plan) (M : Meaning) (L : Lawful M) (t : room plan M ≡ true) w
         ap (λ ps. nth ps number) layered_points
         ∙ ap (λ z. get_or all (place number z) origin) (length-spread (bits plan) (copies plan) (fair plan) M L)
         ∙ ap (λ z. get_or all z origin) (e ∙ sym (div-add-mod' i size))
-        ∙ get_d_spread (bits plan) (copies plan) (fair plan) M L (i / size) (i % size) copy_within low
+        ∙ get_or-spread (bits plan) (copies plan) (fair plan) M L (i / size) (i % size) copy_within low
         ∙ ap (copied (bits plan) (get_or (copies plan) (i / size) nothing)) (sym (nth-under M.points (i % size) low))

@@ -2,6 +2,8 @@
 
 ghost use Rattle.std.specs.Prelude.{◌≡◌, ◌+◌, ◌*◌, ◌^◌, ◌<◌, ◌≤◌, true, length, Some};
 ghost use Rattle.constellation.specs.Meaning.{place};
+ghost use Rattle.constellation.proofs.Points.{good_nth};
+ghost use Rattle.rings.proofs.LayerLaws.{layered_lawful};
 ghost use Rattle.rings.specs.Copies.{copies};
 ghost use Rattle.rings.specs.Layered.{scaled, copied, copied_at, room};
 ghost use Rattle.rings.specs.Made.{Answered, layer_meaning};
@@ -79,6 +81,10 @@ impl<C: Constellation + Drop> Layer<C> {
 
 impl<C: Constellation> Constellation for Layer<C> {
     ghost meaning = { layer_meaning C.Constellation.meaning };
+
+    ghost lawful = { λ s. layered_lawful s.plan _ (C.Constellation.lawful s.below) };
+
+    ghost good = { λ s n. good_nth _ (layered_lawful s.plan _ (C.Constellation.lawful s.below)) n };
 
     fn m(&self) -> u8 {
         if fits(&self.below, self.plan) {

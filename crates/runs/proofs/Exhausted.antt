@@ -45,10 +45,10 @@ module _ {X : Type 0} (d : X) where
           ap (λ n. get_or (at_symbol f (n - 1) ys) (i - 1) d) same ∙ at_same f (i - 1) ys (omega arith)
       go false e = at_other f (j - 1) (i - 1) ys (λ h. eqb-false j i e (omega arith))
 
-  of_get_d : {Y : Type 0} (g : X → Y) (e : Y) (i : ℕ) (ys : List X) → i < length ys → of_symbol g e i ys ≡ g (get_or ys i d)
-  of_get_d g e i [] h = absurd (omega arith)
-  of_get_d g e zero (y ∷ ys) h = refl
-  of_get_d g e (suc i) (y ∷ ys) h = of_get_d g e i ys (omega arith)
+  of-get_or : {Y : Type 0} (g : X → Y) (e : Y) (i : ℕ) (ys : List X) → i < length ys → of_symbol g e i ys ≡ g (get_or ys i d)
+  of-get_or g e i [] h = absurd (omega arith)
+  of-get_or g e zero (y ∷ ys) h = refl
+  of-get_or g e (suc i) (y ∷ ys) h = of-get_or g e i ys (omega arith)
 
 spread_at : (m : ℕ) (d : Placed Symbol) (i : ℕ) (ys : List (Placed Symbol)) (zs : List ℤ) → i < length ys → get_or (spread m ys zs) i d ≡ told (take m (drop (i * m) zs)) (get_or ys i d)
 spread_at m d i [] zs h = absurd (omega arith)
@@ -126,7 +126,7 @@ module _ (M : Meaning) (s : ℕ) (xs : List Symbol) (ts : List Event) where
   of_stands t n g e i low high =
       let il : i - 1 < length t.symbols = omega (arith, n.count) in
       let d = stands M xs ts i in
-      of_get_d d (g t.meaning t.shift) e (i - 1) t.symbols il
+      of-get_or d (g t.meaning t.shift) e (i - 1) t.symbols il
       ∙ ap (g t.meaning t.shift) (n.each i d low high)
       ∙ ap₂ (λ N z. g N z (stands M xs ts i)) n.meaning n.shift
 

@@ -24,7 +24,7 @@ use Rattle.runs.specs.Moved.{moved_sheet, moved, SameOutcome, YieldsMoved, Moved
 use Rattle.runs.proofs.Placed.{chosen}
 use Rattle.runs.proofs.Verdicts.{tell_is, answer_is, read_is}
 use Rattle.runs.proofs.Sheets.{sheet-at, bits_at, reply-accepted}
-use Rattle.runs.proofs.Permute.{length-permute, get_d_permute, position_is, permute_test, permute_zeros, length-sheet, sheet_test, position_test, moved_symbol, spread-moved, at_moved}
+use Rattle.runs.proofs.Permute.{length-permute, get_or-permute, position_is, permute_test, permute_zeros, length-sheet, sheet_test, position_test, moved_symbol, spread-moved, at_moved}
 
 -- ---- the number of symbols
 pub length_at : (f : Placed Symbol → Placed Symbol) (i : ℕ) (ys : List (Placed Symbol)) → length (at_symbol f i ys) ≡ length ys
@@ -170,7 +170,7 @@ module _ (ps : List ℕ) where
       let O = order_from M.m ps t in
       let q = position_is M.m ps O k low high in
       let a : get_or (permute ps y.priors) (position k ps - 1) (pos 0) ≡ get_or y.priors (k - 1) (pos 0)
-      = get_d_permute M.m ps O y.priors (position k ps) q.0 q.1 ∙ ap (λ j. get_or y.priors (j - 1) (pos 0)) q.2 in
+      = get_or-permute M.m ps O y.priors (position k ps) q.0 q.1 ∙ ap (λ j. get_or y.priors (j - 1) (pos 0)) q.2 in
       let e : extrinsic_value (shuffled ps M) s y.symbol (permute ps y.priors) (position k ps) ≡ extrinsic_value M s y.symbol y.priors k
       = (value-moved M L ps t s y.symbol y.priors (position k ps) l q.0 q.1).extrinsic ∙ ap (extrinsic_value M s y.symbol y.priors) q.2 in
       ap₂ (λ a e. (a, e, a +ℤ e)) a e

@@ -43,8 +43,8 @@ module _ (m : ℕ) (ps : List ℕ) (O : Order m ps) where
   pub length-permute : (zs : List ℤ) → length (permute ps zs) ≡ m
   length-permute zs = length-map ps _ ∙ O.size
 
-  pub get_d_permute : (zs : List ℤ) (j : ℕ) → 1 ≤ j → j ≤ m → get_or (permute ps zs) (j - 1) (pos 0) ≡ get_or zs (get_or ps (j - 1) 0 - 1) (pos 0)
-  get_d_permute zs j low high = get_or-map (λ p. get_or zs (p - 1) (pos 0)) ps (j - 1) 0 (pos 0) (omega (arith, O.size))
+  pub get_or-permute : (zs : List ℤ) (j : ℕ) → 1 ≤ j → j ≤ m → get_or (permute ps zs) (j - 1) (pos 0) ≡ get_or zs (get_or ps (j - 1) 0 - 1) (pos 0)
+  get_or-permute zs j low high = get_or-map (λ p. get_or zs (p - 1) (pos 0)) ps (j - 1) 0 (pos 0) (omega (arith, O.size))
 
   -- where k is listed
   pub position_is : (k : ℕ) → 1 ≤ k → k ≤ m → (1 ≤ position k ps) × (position k ps ≤ m) × (get_or ps (position k ps - 1) 0 ≡ k)
@@ -64,7 +64,7 @@ module _ (m : ℕ) (ps : List ℕ) (O : Order m ps) where
   back P zs l h = All-from_get_or P zs (pos 0) λ i hi.
       let o = position_is (suc i) (omega arith) (omega arith) in
       let j : get_or ps (position (suc i) ps - 1) 0 - 1 ≡ i = omega (arith, o.2) in
-      subst P (get_d_permute zs (position (suc i) ps) o.0 o.1 ∙ ap (λ x. get_or zs x (pos 0)) j)
+      subst P (get_or-permute zs (position (suc i) ps) o.0 o.1 ∙ ap (λ x. get_or zs x (pos 0)) j)
       (All-get_or P (permute ps zs) (position (suc i) ps - 1) (pos 0) (omega (arith, length-permute zs, o.0, o.1)) h)
 
   pub permute_test : (zs : List ℤ) → length zs ≡ m → eqb (prefix_len inside zs) (length zs) ≡ eqb (prefix_len inside (permute ps zs)) (length (permute ps zs))

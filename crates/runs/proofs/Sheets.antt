@@ -12,23 +12,23 @@ use Rattle.runs.specs.Runs.{outcome, reply}
 use Rattle.runs.specs.Near.{at}
 
 -- the entry at the place j of the symbol i, from 0, where each symbol has m
-get_d_joined : {X Y : Type 0} (f : X → List Y) (m : ℕ) (ys : List X) (i j : ℕ) (d : Y) →
+get_or-joined : {X Y : Type 0} (f : X → List Y) (m : ℕ) (ys : List X) (i j : ℕ) (d : Y) →
     ((y : X) → length (f y) ≡ m) → j < m → i < length ys → get_or (flat_map f ys) (i * m + j) d ≡ of_symbol (λ y. get_or (f y) j d) d i ys
-get_d_joined f m [] i j d l hj hi = refl
-get_d_joined f m (y ∷ ys) zero j d l hj hi =
+get_or-joined f m [] i j d l hj hi = refl
+get_or-joined f m (y ∷ ys) zero j d l hj hi =
     let e : 0 * m + j ≡ j = simp (zero-mul, zero-add) in
     let h : j < length (f y) = omega (arith, l y) in
     rw e (get_or_append_left (f y) (flat_map f ys) d j h)
-get_d_joined f m (y ∷ ys) (suc i) j d l hj hi =
+get_or-joined f m (y ∷ ys) (suc i) j d l hj hi =
     let e : suc i * m + j ≡ length (f y) + (i * m + j) = omega (arith, l y, suc-mul i m) in
-    rw e (get_or-append-add (f y) (flat_map f ys) (i * m + j) d ∙ get_d_joined f m ys i j d l hj (omega arith))
+    rw e (get_or-append-add (f y) (flat_map f ys) (i * m + j) d ∙ get_or-joined f m ys i j d l hj (omega arith))
 
 -- what a symbol has at the position k, by whatever makes a list of one entry a position
 at_joined : {X Y : Type 0} (g : X → ℕ → Y) (f : X → List Y) (d : Y) (m : ℕ) (ys : List X) (i k : ℕ) →
     ((y : X) → length (f y) ≡ m) → ((y : X) → get_or (f y) (k - 1) d ≡ g y k) →
     1 ≤ i → i ≤ length ys → 1 ≤ k → k ≤ m → at d m (flat_map f ys) i k ≡ of_symbol (λ y. g y k) d (i - 1) ys
 at_joined {X} {Y} g f d m ys i k l e i1 il k1 km =
-    get_d_joined f m ys (i - 1) (k - 1) d l (omega arith) (omega arith)
+    get_or-joined f m ys (i - 1) (k - 1) d l (omega arith) (omega arith)
     ∙ ap (λ (h : X → Y). of_symbol h d (i - 1) ys) (fun_ext e)
 
 module _ (s : State Symbol) (i k : ℕ) (i1 : 1 ≤ i) (il : i ≤ length s.symbols) (k1 : 1 ≤ k) (km : k ≤ s.meaning.m) where

@@ -34,9 +34,9 @@ pub length-arranged : {X : Type 0} (f : ℕ → ℕ) (xs : List X) → length (a
 length-arranged f [] = refl
 length-arranged f (x ∷ xs) = length-map-range_with_len (λ k. get_or (x ∷ xs) (f k) x) 0 (length (x ∷ xs))
 
-pub get_d_arranged : {X : Type 0} (f : ℕ → ℕ) (xs : List X) (k : ℕ) (d : X) → k < length xs → f k < length xs → get_or (arranged f xs) k d ≡ get_or xs (f k) d
-get_d_arranged f [] k d l m = absurd (omega arith)
-get_d_arranged f (x ∷ xs) k d l m =
+pub get_or-arranged : {X : Type 0} (f : ℕ → ℕ) (xs : List X) (k : ℕ) (d : X) → k < length xs → f k < length xs → get_or (arranged f xs) k d ≡ get_or xs (f k) d
+get_or-arranged f [] k d l m = absurd (omega arith)
+get_or-arranged f (x ∷ xs) k d l m =
     get_or-map-range_with_len (λ k. get_or (x ∷ xs) (f k) x) 0 (length (x ∷ xs)) k k d l (omega arith) ∙ get_or_default (x ∷ xs) (f k) x d m
 
 -- the place in storage lies in the table, and the way back
@@ -67,8 +67,8 @@ interleaved_back {X} rows columns xs e =
     let swap = mul_comm rows columns in
     let a : g k < length xs = omega (arith, stored_below columns rows k (omega arith)) in
     let b = stored-stored columns rows k (omega arith) in
-    get_d_arranged g (interleaved rows columns xs) k d (omega arith) (omega arith)
-    ∙ get_d_arranged f xs (g k) d a (omega arith)
+    get_or-arranged g (interleaved rows columns xs) k d (omega arith) (omega arith)
+    ∙ get_or-arranged f xs (g k) d a (omega arith)
     ∙ ap (λ j. get_or xs j d) b)
 
 pub interleaved_columnwise : {X : Type 0} (rows columns : ℕ) (xs : List X) → length xs ≡ rows * columns → Columnwise rows columns xs (interleaved rows columns xs)
@@ -79,5 +79,5 @@ interleaved_columnwise rows columns xs e =
           let a = place_below rows columns r c p q in
           let b = place_below columns rows c r q p in
           let s = stored_at rows columns r c p in
-          get_d_arranged (stored rows columns) xs (c * rows + r) d (omega arith) (omega arith) ∙ ap (λ j. get_or xs j d) s;
+          get_or-arranged (stored rows columns) xs (c * rows + r) d (omega arith) (omega arith) ∙ ap (λ j. get_or xs j d) s;
     }

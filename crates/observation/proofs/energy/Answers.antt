@@ -9,8 +9,8 @@ returns c =
     let im = c.unsigned-abs-im.ensures.value ∙ ap nat_abs (kept w16 (given c.args.s.im c.requires.im) tt).same in
     rw (re, im)
 
-pub overflow-add-result : goal.overflow-add-result
-overflow-add-result c =
+pub overflow_add-result : goal.overflow_add-result
+overflow_add-result c =
     let re = c.unsigned-abs-re.ensures.value ∙ ap nat_abs (kept w16 (given c.args.s.re c.requires.re) tt).same in
     let im = c.unsigned-abs-im.ensures.value ∙ ap nat_abs (kept w16 (given c.args.s.im c.requires.im) tt).same in
     let h = energy_small c.args.s c.requires in

@@ -29,24 +29,24 @@ real z y h a p q e = summed z a (ap (λ (t : ℤ × ℤ). t.0) e) (re_small y (c
 abbrev imaginary : {t : ℤ × ℤ} (z : ℤ) (y h : Sample) → nat_abs z ≤ 6279174 → Ranged y → Ranged h → t ≡ product_of y (conjugated h) → Known
 imaginary z y h a p q e = summed z a (ap (λ (t : ℤ × ℤ). t.1) e) (im_small y (conjugated h) p (conjugate_ranged h q))
 
-pub overflow-add-result : goal.overflow-add-result
-overflow-add-result c =
+pub overflow_add-result : goal.overflow_add-result
+overflow_add-result c =
     let e = product_is c.args.y c.conjugate.ensures c.product-z-re.ensures in
     fits w32 (real c.args.before.z_re c.args.y c.args.h c.requires.0.re c.requires.1 c.requires.2 e).is tt
 
-pub overflow-add-result-2 : goal.overflow-add-result-2
-overflow-add-result-2 c =
+pub overflow_add-result-2 : goal.overflow_add-result-2
+overflow_add-result-2 c =
     let e = product_is c.args.y c.conjugate.ensures c.product-z-re.ensures in
     fits w32 (imaginary c.args.before.z_im c.args.y c.args.h c.requires.0.im c.requires.1 c.requires.2 e).is tt
 
 energies_fit : (a : ℕ) {b e : ℕ} → a ≤ 6279174 → b ≡ e → e ≤ 2093058 → Fits w32 (a + b)
 energies_fit a h e k = omega arith
 
-pub overflow-add-result-3 : goal.overflow-add-result-3
-overflow-add-result-3 c = energies_fit c.args.before.y_energy c.requires.0.y (ap (λ (t : ℕ × ℕ). t.0) c.energies-y-energy.ensures) (energy_small c.args.y c.requires.1)
+pub overflow_add-result-3 : goal.overflow_add-result-3
+overflow_add-result-3 c = energies_fit c.args.before.y_energy c.requires.0.y (ap (λ (t : ℕ × ℕ). t.0) c.energies-y-energy.ensures) (energy_small c.args.y c.requires.1)
 
-pub overflow-add-result-4 : goal.overflow-add-result-4
-overflow-add-result-4 c = energies_fit c.args.before.h_energy c.requires.0.h (ap (λ (t : ℕ × ℕ). t.1) c.energies-y-energy.ensures) (energy_small c.args.h c.requires.2)
+pub overflow_add-result-4 : goal.overflow_add-result-4
+overflow_add-result-4 c = energies_fit c.args.before.h_energy c.requires.0.h (ap (λ (t : ℕ × ℕ). t.1) c.energies-y-energy.ensures) (energy_small c.args.h c.requires.2)
 
 pub returns : goal.returns
 returns c =

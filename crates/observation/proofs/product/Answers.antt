@@ -14,11 +14,11 @@ real a b p q = part a.re b.re p.re q.re ⊖ part a.im b.im p.im q.im
 abbrev imaginary : (a b : Sample) → Ranged a → Ranged b → Known
 imaginary a b p q = part a.re b.im p.re q.im ⊕ part a.im b.re p.im q.re
 
-pub overflow-sub-result : goal.overflow-sub-result
-overflow-sub-result c = fits w32 (real c.args.a c.args.b c.requires.0 c.requires.1).is tt
+pub overflow_sub-result : goal.overflow_sub-result
+overflow_sub-result c = fits w32 (real c.args.a c.args.b c.requires.0 c.requires.1).is tt
 
-pub overflow-add-result : goal.overflow-add-result
-overflow-add-result c = fits w32 (imaginary c.args.a c.args.b c.requires.0 c.requires.1).is tt
+pub overflow_add-result : goal.overflow_add-result
+overflow_add-result c = fits w32 (imaginary c.args.a c.args.b c.requires.0 c.requires.1).is tt
 
 pub returns : goal.returns
 returns c = ap₂ (λ (a b : ℤ). (a, b))

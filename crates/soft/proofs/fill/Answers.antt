@@ -18,8 +18,8 @@ loop-i-init c =
 room : (n m i l k : ℕ) → l ≡ k → k ≡ n * m → i < n → i * m + m ≤ l
 room n m i l k e f h = omega (arith, row_room n m i h)
 
-pub slice-bounds-row-end : goal.slice-bounds-row-end
-slice-bounds-row-end c =
+pub slice_bounds-row-end : goal.slice_bounds-row-end
+slice_bounds-row-end c =
     let m = c.args.chart.now.m in
     let within : c.loop-i.i * m + m ≤ length c.loop-i.sheet = room c.args.table.now.len m c.loop-i.i _ _ c.loop-i.auto.sheet c.requires.room c.loop-i-test.true in
     search rules

@@ -11,8 +11,8 @@ use Rattle.protocol.proofs.Fronts.{front_at, front_take, front_drop}
 use Rattle.soft.proofs.Rows.{all_in_size, row_room, table_room}
 use Rattle.soft.proofs.row.Goals as goal
 
-pub slice-bounds-priors-end : goal.slice-bounds-priors-end
-slice-bounds-priors-end c =
+pub slice_bounds-priors-end : goal.slice_bounds-priors-end
+slice_bounds-priors-end c =
     let t = c.args.table.now in
     let m = c.args.chart.now.m in
     let few = t.few in

@@ -3,8 +3,8 @@ use Rattle.std.proofs.Common.{w64}
 use Rattle.arith.proofs.Exact.{Is, given, fits, kept, plus, minus, sized, topmost, looser, small}
 use Rattle.detect.proofs.Topping.{both}
 
-pub overflow-add-b-2 : goal.overflow-add-b-2
-overflow-add-b-2 c =
+pub overflow_add-b-2 : goal.overflow_add-b-2
+overflow_add-b-2 c =
     let b = kept w64 (given c.args.base c.requires.1.base_in) tt in
     let t = kept w64 (given c.args.turn c.requires.1.tv_in) tt in
     let o = kept w64 (sized c.abs.ensures.value (kept w64 (given c.args.cross c.requires.1.tu_in) tt)) tt in

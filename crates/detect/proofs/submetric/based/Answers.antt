@@ -27,20 +27,20 @@ prior {s = s} {p} b = keep w64 (lit 2 ⊗ keep w64 (arg s b.s_in) tt) tt ⊗ kee
 abbrev whole : {w s p : ℤ} {x y : ℕ} {r : Record} {t : ℤ} (b : Basing w x y r s p) → t ≡ pos 1048576 *ℤ pos r.y_energy +ℤ (keep w64 (far b) tt).t → nat_abs t ≤ 289567256969232 → Known
 whole b e h = keep w64 (prior b) tt ⊖ keep w64 (weighted b e h) tt
 
-pub overflow-mul-result-2 : goal.overflow-mul-result-2
-overflow-mul-result-2 c = fits w64 (prior c.requires).is tt
+pub overflow_mul-result-2 : goal.overflow_mul-result-2
+overflow_mul-result-2 c = fits w64 (prior c.requires).is tt
 
-pub overflow-mul-x-2 : goal.overflow-mul-x-2
-overflow-mul-x-2 c = fits w64 (far c.requires).is tt
+pub overflow_mul-x-2 : goal.overflow_mul-x-2
+overflow_mul-x-2 c = fits w64 (far c.requires).is tt
 
 pub farther-requires : goal.farther-requires
 farther-requires c = (c.requires.r_in.y, small 280788335427600 (keep w64 (far c.requires) tt).is tt)
 
-pub overflow-mul-result-4 : goal.overflow-mul-result-4
-overflow-mul-result-4 c = fits w64 (weighted c.requires c.farther.ensures.value c.farther.ensures.small).is tt
+pub overflow_mul-result-4 : goal.overflow_mul-result-4
+overflow_mul-result-4 c = fits w64 (weighted c.requires c.farther.ensures.value c.farther.ensures.small).is tt
 
-pub overflow-sub-result : goal.overflow-sub-result
-overflow-sub-result c = fits w64 (whole c.requires c.farther.ensures.value c.farther.ensures.small).is tt
+pub overflow_sub-result : goal.overflow_sub-result
+overflow_sub-result c = fits w64 (whole c.requires c.farther.ensures.value c.farther.ensures.small).is tt
 
 pub returns : goal.returns
 returns c =

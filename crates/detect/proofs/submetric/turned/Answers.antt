@@ -2,22 +2,22 @@ use Rattle.detect.proofs.submetric.turned.Goals as goal
 use Rattle.std.proofs.Common.{w16, w32, w64}
 use Rattle.arith.proofs.Exact.{Is, given, literal, number, fits, kept, times, minus, small}
 
-pub overflow-mul-result-2 : goal.overflow-mul-result-2
-overflow-mul-result-2 c =
+pub overflow_mul-result-2 : goal.overflow_mul-result-2
+overflow_mul-result-2 c =
     let first = kept w64 (times (literal 4096) (kept w64 (given c.args.w c.requires.w_in) tt)) tt in
     fits w64 (times first (number w64 c.requires.x_in tt)) tt
 
-pub overflow-mul-result-3 : goal.overflow-mul-result-3
-overflow-mul-result-3 c =
+pub overflow_mul-result-3 : goal.overflow_mul-result-3
+overflow_mul-result-3 c =
     let first = kept w64 (times (literal 4096) (kept w64 (given c.args.w c.requires.w_in) tt)) tt in
     let second = kept w64 (times first (number w64 c.requires.x_in tt)) tt in
     fits w64 (times second (kept w64 (kept w32 (given c.args.z c.requires.z_in) tt) tt)) tt
 
-pub overflow-mul-result-4 : goal.overflow-mul-result-4
-overflow-mul-result-4 c = fits w64 (times (kept w64 (given c.args.s c.requires.s_in) tt) (kept w64 (kept w16 (given c.args.a c.requires.a_in) tt) tt)) tt
+pub overflow_mul-result-4 : goal.overflow_mul-result-4
+overflow_mul-result-4 c = fits w64 (times (kept w64 (given c.args.s c.requires.s_in) tt) (kept w64 (kept w16 (given c.args.a c.requires.a_in) tt) tt)) tt
 
-pub overflow-sub-result : goal.overflow-sub-result
-overflow-sub-result c =
+pub overflow_sub-result : goal.overflow_sub-result
+overflow_sub-result c =
     let first = kept w64 (times (literal 4096) (kept w64 (given c.args.w c.requires.w_in) tt)) tt in
     let second = kept w64 (times first (number w64 c.requires.x_in tt)) tt in
     let third = kept w64 (times second (kept w64 (kept w32 (given c.args.z c.requires.z_in) tt) tt)) tt in

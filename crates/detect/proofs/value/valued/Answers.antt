@@ -24,8 +24,8 @@ is_by e i = record { same = e ∙ i.same; within = i.within }
 doubled : (k : ℕ) → 2 ^ (k + 1) ≡ 2 * 2 ^ k
 doubled k = omega (arith, pow-add 2 k 1)
 
-pub overflow-mul-s : goal.overflow-mul-s
-overflow-mul-s c = fits w64 (own c.scale-s.ensures.value c.scale-s.ensures.small c.requires).is tt
+pub overflow_mul-s : goal.overflow_mul-s
+overflow_mul-s c = fits w64 (own c.scale-s.ensures.value c.scale-s.ensures.small c.requires).is tt
 
 pub less-own-d-requires : goal.less-own-d-requires
 less-own-d-requires c = (
@@ -33,8 +33,8 @@ less-own-d-requires c = (
   small 9006099743113216 (keep w64 (own c.scale-s.ensures.value c.scale-s.ensures.small c.requires) tt).is tt,
 )
 
-pub overflow-add-d : goal.overflow-add-d
-overflow-add-d c =
+pub overflow_add-d : goal.overflow_add-d
+overflow_add-d c =
     let d = less c.less-own-d.ensures.value c.less-own-d.ensures.small (apart c.requires).is (keep w64 (own c.scale-s.ensures.value c.scale-s.ensures.small c.requires) tt).is in
     fits w64 (keep w64 (know d) tt ⊕ keep w64 (know (equal c.scale-s.ensures.value c.scale-s.ensures.small)) tt).is tt
 

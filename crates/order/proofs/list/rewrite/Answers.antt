@@ -4,8 +4,8 @@ use Rattle.order.proofs.Loops.{reorder-more, reorder-room}
 use Rattle.constellation.proofs.OrderLaws.{Order, order_from}
 use Rattle.order.proofs.list.rewrite.Goals as goal
 
-pub overflow-mul-r : goal.overflow-mul-r
-overflow-mul-r c =
+pub overflow_mul-r : goal.overflow_mul-r
+overflow_mul-r c =
     let o = order_from c.args.m c.args.list.now c.requires.1 in
     omega (arith, c.loop-p.invariant, reorder-room c.args.m c.args.list.now c.args.label c.loop-p.p-index c.loop-p-test.true (omega arith))
 
@@ -14,8 +14,8 @@ bit-at-requires c =
     let o = order_from c.args.m c.args.list.now c.requires.1 in
     (o.most c.loop-p.p-index (omega arith), (o.least c.loop-p.p-index (omega arith), c.requires.0))
 
-pub overflow-add-r : goal.overflow-add-r
-overflow-add-r c =
+pub overflow_add-r : goal.overflow_add-r
+overflow_add-r c =
     let o = order_from c.args.m c.args.list.now c.requires.1 in
     omega (arith, c.loop-p.invariant, reorder-room c.args.m c.args.list.now c.args.label c.loop-p.p-index c.loop-p-test.true (omega arith))
 

@@ -49,9 +49,9 @@ tell-all-requires c =
     let n = c.args.number in
     let k = c.constellation-of-c.result in
     let e = c.constellation-of-c.ensures in
-    let a = c.in-ok-placed.placed in
-    let F = c.in-ok-placed.ensures in
-    let z = c.in-ok-check-priors.ensures in
+    let a = c.in_ok-placed.placed in
+    let F = c.in_ok-placed.ensures in
+    let z = c.in_ok-check-priors.ensures in
     let b = c.close-burst.result in
     let d = c.close-burst.ensures.same in
     let P = c.close-burst.ensures.closed in
@@ -76,9 +76,9 @@ returns c =
     let n = c.args.number in
     let k = c.constellation-of-c.result in
     let e = c.constellation-of-c.ensures in
-    let a = c.in-ok-placed.placed in
-    let F = c.in-ok-placed.ensures in
-    let z = c.in-ok-check-priors.ensures in
+    let a = c.in_ok-placed.placed in
+    let F = c.in_ok-placed.ensures in
+    let z = c.in_ok-check-priors.ensures in
     let b = c.close-burst.result in
     let d = c.close-burst.ensures.same in
     let P = c.close-burst.ensures.closed in
@@ -101,17 +101,17 @@ returns c =
       subst (λ (r : Catalogue). (catalogue_meaning r).m ≤ 8) (sym same) (omega (arith, m, few_bits C.mode s.mode_low s.mode_high)),
     )
 
-pub returns-in-err-placed : goal.returns-in-err-placed
-returns-in-err-placed c =
+pub returns-in_err-placed : goal.returns-in_err-placed
+returns-in_err-placed c =
     let p = err_from_is_err_and c.from-residual.result c.from-residual.ensures.1 in
-    rw (p.1, p.2) c.in-err-placed.ensures
+    rw (p.1, p.2) c.in_err-placed.ensures
 
-pub returns-in-err-check-priors : goal.returns-in-err-check-priors
-returns-in-err-check-priors c =
-    let F = c.in-ok-placed.ensures in
-    let p = err_from_is_err_and c.from-residual-in-err-check-priors.result c.from-residual-in-err-check-priors.ensures.1 in
-    rw (p.1, p.2) (F.fault ∙ ap (numbered_fault 0) c.in-err-check-priors.ensures)
+pub returns-in_err-check-priors : goal.returns-in_err-check-priors
+returns-in_err-check-priors c =
+    let F = c.in_ok-placed.ensures in
+    let p = err_from_is_err_and c.from-residual-in_err-check-priors.result c.from-residual-in_err-check-priors.ensures.1 in
+    rw (p.1, p.2) (F.fault ∙ ap (numbered_fault 0) c.in_err-check-priors.ensures)
 
-pub returns-in-err-tell-all : goal.returns-in-err-tell-all
-returns-in-err-tell-all c =
-    absurd (apart c.tell-all.result tt c.in-err-tell-all.field-0.0 c.tell-all.ensures.accepted c.in-err-tell-all.was)
+pub returns-in_err-tell-all : goal.returns-in_err-tell-all
+returns-in_err-tell-all c =
+    absurd (apart c.tell-all.result tt c.in_err-tell-all.field-0.0 c.tell-all.ensures.accepted c.in_err-tell-all.was)

@@ -10,13 +10,13 @@ use Rattle.reading.proofs.files.read_burst.Goals as goal
 pub returns : goal.returns
 returns c =
     let bs = c.args.bytes.now in
-    let l = laid c.in-ok-file.file in
-    let cuts = c.in-ok-file.ensures.cuts in
+    let l = laid c.in_ok-file.file in
+    let cuts = c.in_ok-file.ensures.cuts in
     MatchResult-weaker c.burst-of.result c.burst-of.ensures
     (λ b h. (held_as bs l c.args.number (closed_kept (catalogue_meaning b.c) b.table) cuts h.0 h.1, h.2, h.3))
     (λ e h. refused_as bs l e cuts h)
 
-pub returns-in-err-file : goal.returns-in-err-file
-returns-in-err-file c =
+pub returns-in_err-file : goal.returns-in_err-file
+returns-in_err-file c =
     let p = err_from_is_err_and c.from-residual.result c.from-residual.ensures.1 in
-    rw (p.1, p.2) (ap judged_cut c.in-err-file.ensures.cuts)
+    rw (p.1, p.2) (ap judged_cut c.in_err-file.ensures.cuts)

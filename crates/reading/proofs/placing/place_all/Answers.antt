@@ -37,9 +37,9 @@ place-record-requires c =
 
 pub loop-i-init : goal.loop-i-init
 loop-i-init c =
-    let b = c.in-ok-burst.burst in
+    let b = c.in_ok-burst.burst in
     let f = c.args.file in
-    let o = c.in-ok-burst.ensures in
+    let o = c.in_ok-burst.ensures in
     let s : StandsOpen (open_kept (catalogue_meaning b.c) b.draft) (opened (catalogue_meaning b.c) c.args.number f.settings.shift)
     = subst (λ (q : Catalogue). StandsOpen (open_kept (catalogue_meaning q) b.draft) (opened {X = Symbol} (catalogue_meaning q) c.args.number f.settings.shift)) (sym o.1) o.2 in
     (along_start (contents_of (laid f)) (catalogue_meaning b.c) c.args.number f.settings.shift (open_kept (catalogue_meaning b.c) b.draft) s, refl)
@@ -48,7 +48,7 @@ pub loop-i-preserved : goal.loop-i-preserved
 loop-i-preserved c =
     let f = c.args.file in
     let C = contents_of (laid f) in
-    let b = c.in-ok-burst.burst in
+    let b = c.in_ok-burst.burst in
     let i = c.loop-i.i in
     let v = shown c.record-record.result in
     let r = c.place-record.result in
@@ -57,16 +57,16 @@ loop-i-preserved c =
     let P = moved c.loop-i.burst.c b.c d d' (placing_of f.settings.mode v) r c.loop-i.invariant.1 c.place-record.ensures.placed in
     let lt : i < length C.vectors = omega (arith, c.requires.whole.vectors, c.loop-i-test.true) in
     let said : c.in-record.result ≡ numbered (i + 1) r = c.in-record.ensures ∙ ap (λ (n : ℕ). numbered n r) c.number-of.ensures in
-    let ok : r ≡ Ok tt = numbered_ok (i + 1) r c.in-record.result c.in-ok-in-record.field-0 said c.in-ok-in-record.was in (
+    let ok : r ≡ Ok tt = numbered_ok (i + 1) r c.in-record.result c.in_ok-in-record.field-0 said c.in_ok-in-record.was in (
       along_step C c.requires.shape (opened (catalogue_meaning b.c) c.args.number f.settings.shift) i (open_kept (catalogue_meaning b.c) d) (open_kept (catalogue_meaning b.c) d') v r lt c.record-record.ensures.entry c.loop-i.invariant.0 P ok,
       c.place-record.ensures.same ∙ c.loop-i.invariant.1,
     )
 
-pub returns-in-err-in-record : goal.returns-in-err-in-record
-returns-in-err-in-record c =
+pub returns-in_err-in-record : goal.returns-in_err-in-record
+returns-in_err-in-record c =
     let f = c.args.file in
     let C = contents_of (laid f) in
-    let b = c.in-ok-burst.burst in
+    let b = c.in_ok-burst.burst in
     let i = c.loop-i.i in
     let v = shown c.record-record.result in
     let r = c.place-record.result in
@@ -75,28 +75,28 @@ returns-in-err-in-record c =
     let P = moved c.loop-i.burst.c b.c d d' (placing_of f.settings.mode v) r c.loop-i.invariant.1 c.place-record.ensures.placed in
     let lt : i < length C.vectors = omega (arith, c.requires.whole.vectors, c.loop-i-test.true) in
     let said : c.in-record.result ≡ numbered (i + 1) r = c.in-record.ensures ∙ ap (λ (n : ℕ). numbered n r) c.number-of.ensures in
-    let e = numbered_err (i + 1) r c.in-record.result c.in-err-in-record.field-0.0 said c.in-err-in-record.was in
+    let e = numbered_err (i + 1) r c.in-record.result c.in_err-in-record.field-0.0 said c.in_err-in-record.was in
     let refused = along_refused C c.requires.shape (opened (catalogue_meaning b.c) c.args.number f.settings.shift) i (open_kept (catalogue_meaning b.c) d) (open_kept (catalogue_meaning b.c) d') v r lt c.record-record.ensures.entry c.loop-i.invariant.0 P e.0 e.2 in
-    let o = c.in-ok-burst.ensures in
-    let fault : values_fault C ≡ Some c.in-err-in-record.field-0.0
+    let o = c.in_ok-burst.ensures in
+    let fault : values_fault C ≡ Some c.in_err-in-record.field-0.0
     = shift_passed (leb C.shift 40) _ _ o.0
     ∙ (ap (λ (q : Option FileRefusal). or_else q (numbered_fault 0 (priors_fault 1 C.priors))) refused ∙ ap (λ (x : FileRefusal). Some x) (sym e.1)) in
-    let p = err_from_is_err_and c.from-residual-in-err-in-record.result c.from-residual-in-err-in-record.ensures.1 in
+    let p = err_from_is_err_and c.from-residual-in_err-in-record.result c.from-residual-in_err-in-record.ensures.1 in
     rw (p.1, p.2) fault
 
-pub returns-in-err-burst : goal.returns-in-err-burst
-returns-in-err-burst c =
+pub returns-in_err-burst : goal.returns-in_err-burst
+returns-in_err-burst c =
     let C = contents_of (laid c.args.file) in
     let p = err_from_is_err_and c.from-residual.result c.from-residual.ensures.1 in
-    rw (p.1, p.2) (shift_refused (leb C.shift 40) c.in-err-burst.field-0.0 _ c.in-err-burst.ensures)
+    rw (p.1, p.2) (shift_refused (leb C.shift 40) c.in_err-burst.field-0.0 _ c.in_err-burst.ensures)
 
 pub returns : goal.returns
 returns c =
     let f = c.args.file in
     let C = contents_of (laid f) in
-    let b = c.in-ok-burst.burst in
+    let b = c.in_ok-burst.burst in
     let d = c.loop-i.burst.draft in
-    let o = c.in-ok-burst.ensures in
+    let o = c.in_ok-burst.ensures in
     let n : length C.vectors ≡ c.loop-i.i = omega (arith, c.requires.whole.vectors, c.loop-i-test.false, c.loop-i.auto.i-end) in
     let e = along_end C (opened (catalogue_meaning b.c) c.args.number f.settings.shift) c.loop-i.i (open_kept (catalogue_meaning b.c) d) c.loop-i.invariant.0 n in
     record {

@@ -14,22 +14,22 @@ use Rattle.reading.proofs.sheets.demap.Goals as goal
 room : (n m a b : ℕ) → n ≡ a → m ≡ b → a ≤ 128 → b ≤ 8 → n * m ≤ 1024
 room n m a b p q few wide = table_room n m (omega arith) (omega arith)
 
-pub overflow-mul-symbols : goal.overflow-mul-symbols
-overflow-mul-symbols c =
-    let H = c.in-ok-burst.ensures in
+pub overflow_mul-symbols : goal.overflow_mul-symbols
+overflow_mul-symbols c =
+    let H = c.in_ok-burst.ensures in
     let r = room c.symbols-symbols.result c.positions-m.result _ _ c.symbols-symbols.ensures c.positions-m.ensures H.1 H.2 in
     omega arith
 
-pub slice-bounds-take-end : goal.slice-bounds-take-end
-slice-bounds-take-end c =
-    let H = c.in-ok-burst.ensures in
+pub slice_bounds-take-end : goal.slice_bounds-take-end
+slice_bounds-take-end c =
+    let H = c.in_ok-burst.ensures in
     let r = room c.symbols-symbols.result c.positions-m.result _ _ c.symbols-symbols.ensures c.positions-m.ensures H.1 H.2 in
     omega (arith, c.told-sheet)
 
 pub returns : goal.returns
 returns c =
-    let b = c.in-ok-burst.burst in
-    let H = c.in-ok-burst.ensures in
+    let b = c.in_ok-burst.burst in
+    let H = c.in_ok-burst.ensures in
     let n = c.symbols-symbols.result in
     let m = c.positions-m.result in
     let xs = c.args.sheet.now in
@@ -39,15 +39,15 @@ returns c =
     let k' = closed_kept (catalogue_meaning b.c) c.take.new.self.table in
     demapped k k' n m (take (n * m) xs) c.take.new.sheet c.take.result c.symbols-symbols.ensures c.positions-m.ensures len c.take.ensures.taken (read_spec c.args.bytes.now) H.0 xs
 
-pub returns-in-err-burst : goal.returns-in-err-burst
-returns-in-err-burst c =
+pub returns-in_err-burst : goal.returns-in_err-burst
+returns-in_err-burst c =
     let p = err_from_is_err_and c.from-residual.result c.from-residual.ensures.1 in
-    rw (p.1, p.2) (c.in-err-burst.ensures, refl)
+    rw (p.1, p.2) (c.in_err-burst.ensures, refl)
 
-pub returns-in-err-turn : goal.returns-in-err-turn
-returns-in-err-turn c =
-    let b = c.in-ok-burst.burst in
-    let H = c.in-ok-burst.ensures in
+pub returns-in_err-turn : goal.returns-in_err-turn
+returns-in_err-turn c =
+    let b = c.in_ok-burst.burst in
+    let H = c.in_ok-burst.ensures in
     let n = c.symbols-symbols.result in
     let m = c.positions-m.result in
     let xs = c.args.sheet.now in
@@ -55,14 +55,14 @@ returns-in-err-turn c =
     let len : length (take (n * m) xs) ≡ n * m = length-take-le (n * m) xs (omega (arith, c.told-sheet)) in
     let k = closed_kept (catalogue_meaning b.c) b.table in
     let k' = closed_kept (catalogue_meaning b.c) c.take.new.self.table in
-    absurd (apart c.take.result _ c.in-err-turn.field-0.0
+    absurd (apart c.take.result _ c.in_err-turn.field-0.0
     (turn_given k k' n m (take (n * m) xs) c.take.new.sheet c.take.result c.symbols-symbols.ensures c.positions-m.ensures len c.take.ensures.taken (read_spec c.args.bytes.now) H.0)
-    c.in-err-turn.was)
+    c.in_err-turn.was)
 
-pub returns-in-err-withdraw : goal.returns-in-err-withdraw
-returns-in-err-withdraw c =
-    let b = c.in-ok-burst.burst in
-    let H = c.in-ok-burst.ensures in
+pub returns-in_err-withdraw : goal.returns-in_err-withdraw
+returns-in_err-withdraw c =
+    let b = c.in_ok-burst.burst in
+    let H = c.in_ok-burst.ensures in
     let n = c.symbols-symbols.result in
     let m = c.positions-m.result in
     let xs = c.args.sheet.now in
@@ -71,8 +71,8 @@ returns-in-err-withdraw c =
     let k = closed_kept (catalogue_meaning b.c) b.table in
     let t = c.take.new.self in
     let k' = closed_kept (catalogue_meaning b.c) t.table in
-    absurd (apart c.withdraw.result tt c.in-err-withdraw.field-0.0
+    absurd (apart c.withdraw.result tt c.in_err-withdraw.field-0.0
     (turn-withdrawn k k' n m (take (n * m) xs) c.take.new.sheet c.take.result c.symbols-symbols.ensures c.positions-m.ensures len c.take.ensures.taken (read_spec c.args.bytes.now) H.0
-    c.in-ok-turn.turn (closed_kept (catalogue_meaning t.c) t.table) c.withdraw.result c.in-ok-turn.was
+    c.in_ok-turn.turn (closed_kept (catalogue_meaning t.c) t.table) c.withdraw.result c.in_ok-turn.was
     (ap (λ (q : Catalogue). closed_kept (catalogue_meaning q) t.table) c.take.ensures.same) c.withdraw.ensures.withdrawn.reply)
-    c.in-err-withdraw.was)
+    c.in_err-withdraw.was)

@@ -54,8 +54,8 @@ loop-i-preserved c =
       c.tell-symbol.ensures.same ∙ c.loop-i.invariant.1,
     )
 
-pub returns-in-err-tell-symbol : goal.returns-in-err-tell-symbol
-returns-in-err-tell-symbol c =
+pub returns-in_err-tell-symbol : goal.returns-in_err-tell-symbol
+returns-in_err-tell-symbol c =
     let b = c.args.burst.now in
     let bs = c.args.priors.now in
     let M = catalogue_meaning b.c in
@@ -66,7 +66,7 @@ returns-in-err-tell-symbol c =
     let P = moved c.loop-i.burst.c b.c c.loop-i.burst.table c.tell-symbol.new.burst.table _ c.tell-symbol.result c.loop-i.invariant.1 c.tell-symbol.ensures.told in
     let ok = told-accepted k (closed_kept M c.loop-i.burst.table) (closed_kept M c.tell-symbol.new.burst.table) c.positions-m.result c.loop-i.i (signeds_of bs) c.tell-symbol.result
     c.loop-i.invariant.0 c.positions-m.ensures lt c.requires.idle c.requires.ranged w.1 P in
-    let not = c.in-err-tell-symbol.was in
+    let not = c.in_err-tell-symbol.was in
     let z : ◌≡◌ {A = ℕ} 0 1 = cc (ok, not) in
     absurd (omega arith)
 

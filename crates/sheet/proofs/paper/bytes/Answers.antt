@@ -3,8 +3,8 @@ use Rattle.std.proofs.lemmas.List.{get_or_read}
 use Rattle.sheet.proofs.Pages.{next_within, page_step, page_end, read_joined, taken}
 use Rattle.sheet.proofs.paper.bytes.Goals as goal
 
-pub slice-bounds-put-end : goal.slice-bounds-put-end
-slice-bounds-put-end g c =
+pub slice_bounds-put-end : goal.slice_bounds-put-end
+slice_bounds-put-end g c =
     let w = c.size-width.result in
     let e : length c.args.cells.now * w ≡ length c.args.cells.now * g.T.Element.size = ap (λ n. length c.args.cells.now * n) c.size-width.ensures in
     let p = next_within c.loop-i.i (length c.args.cells.now) w c.loop-i-test.true in
@@ -16,7 +16,7 @@ loop-i-preserved g c = (
   page_step g.T.Element.coded c.size-width.result (λ x. g.met.T.Element.wide x ∙ sym c.size-width.ensures)
       c.args.cells.now c.args.out.now c.loop-i.out c.loop-i.i _ c.index-cells-i.result c.put.new.out
       c.loop-i-test.true (omega arith) c.index-cells-i.is
-      (taken c.put.result c.put.new.out _ _ c.in-ok-put.was c.put.ensures.bytes) c.loop-i.invariant.0,
+      (taken c.put.result c.put.new.out _ _ c.in_ok-put.was c.put.ensures.bytes) c.loop-i.invariant.0,
   λ k d l. below_more (λ (k : ℕ). g.T.Element.decoded (g.T.Element.coded (get_or c.args.cells.now k d)) ≡ get_or c.args.cells.now k d) c.loop-i.i
       (λ k l. c.loop-i.invariant.1 k d l)
       (let e = get_or_read c.args.cells.now c.loop-i.i c.index-cells-i.result c.loop-i-test.true c.index-cells-i.is d in

@@ -19,5 +19,5 @@ invariant-of-self c =
     let vs = c.args.values.now in
     let g : c.args.self.now.len * c.args.m ≤ 128 * 8 = mul-le-mul few c.requires in
     let room : 0 + length vs ≤ 1024 = omega arith in
-    let w = over-kept inside 0 1024 vs t.priors _ c.put.ensures t.wide t.ranged room (each_front inside vs Range c.in-default.ensures) in
+    let w = over-kept inside 0 1024 vs t.priors _ c.put.ensures t.wide t.ranged room (each_front inside vs Range c.in_default.ensures) in
     (few, (t.whole, (w.0, (w.1, (t.sized, (t.low, tt))))))
