@@ -2,6 +2,8 @@
 
 #![tactic(auto)]
 
+ghost use Rattle.constellation.proofs.Points.{good_nth};
+ghost use Rattle.catalogue.specs.CatalogueKeeps.{catalogue_lawful};
 ghost use Rattle.catalogue.specs.Modes.{mode_meaning, catalogue_meaning, Offered, fitted};
 ghost use Rattle.kinds.specs.Psks.{psk_meaning};
 ghost use Rattle.rings.specs.Made.{ring_plan, ratio_plan};
@@ -62,6 +64,10 @@ fn rated(below: Psk, ratios: u32) -> Option<Catalogue>
 
 impl Constellation for Catalogue {
     ghost meaning = { catalogue_meaning };
+
+    ghost lawful = { λ c. catalogue_lawful c };
+
+    ghost good = { λ c n. good_nth _ (catalogue_lawful c) n };
 
     fn m(&self) -> u8 {
         match self {

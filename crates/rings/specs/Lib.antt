@@ -1,3 +1,4 @@
 pub mod Copies
 pub mod Layered
 pub mod Made
+pub mod LayerKeeps

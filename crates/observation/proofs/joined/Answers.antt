@@ -31,30 +31,30 @@ imaginary z y h a p q e = summed z a (ap (λ (t : ℤ × ℤ). t.1) e) (im_small
 
 pub overflow_add-result : goal.overflow_add-result
 overflow_add-result c =
-    let e = product_is c.args.y c.conjugate.ensures c.product-z-re.ensures in
+    let e = product_is c.args.y c.conjugate.ensures c.product-z_re.ensures in
     fits w32 (real c.args.before.z_re c.args.y c.args.h c.requires.0.re c.requires.1 c.requires.2 e).is tt
 
 pub overflow_add-result-2 : goal.overflow_add-result-2
 overflow_add-result-2 c =
-    let e = product_is c.args.y c.conjugate.ensures c.product-z-re.ensures in
+    let e = product_is c.args.y c.conjugate.ensures c.product-z_re.ensures in
     fits w32 (imaginary c.args.before.z_im c.args.y c.args.h c.requires.0.im c.requires.1 c.requires.2 e).is tt
 
 energies_fit : (a : ℕ) {b e : ℕ} → a ≤ 6279174 → b ≡ e → e ≤ 2093058 → Fits w32 (a + b)
 energies_fit a h e k = omega arith
 
 pub overflow_add-result-3 : goal.overflow_add-result-3
-overflow_add-result-3 c = energies_fit c.args.before.y_energy c.requires.0.y (ap (λ (t : ℕ × ℕ). t.0) c.energies-y-energy.ensures) (energy_small c.args.y c.requires.1)
+overflow_add-result-3 c = energies_fit c.args.before.y_energy c.requires.0.y (ap (λ (t : ℕ × ℕ). t.0) c.energies-y_energy.ensures) (energy_small c.args.y c.requires.1)
 
 pub overflow_add-result-4 : goal.overflow_add-result-4
-overflow_add-result-4 c = energies_fit c.args.before.h_energy c.requires.0.h (ap (λ (t : ℕ × ℕ). t.1) c.energies-y-energy.ensures) (energy_small c.args.h c.requires.2)
+overflow_add-result-4 c = energies_fit c.args.before.h_energy c.requires.0.h (ap (λ (t : ℕ × ℕ). t.1) c.energies-y_energy.ensures) (energy_small c.args.h c.requires.2)
 
 pub returns : goal.returns
 returns c =
-    let e = product_is c.args.y c.conjugate.ensures c.product-z-re.ensures in
+    let e = product_is c.args.y c.conjugate.ensures c.product-z_re.ensures in
     record {
       re = (keep w32 (real c.args.before.z_re c.args.y c.args.h c.requires.0.re c.requires.1 c.requires.2 e) tt).is.same;
       im = (keep w32 (imaginary c.args.before.z_im c.args.y c.args.h c.requires.0.im c.requires.1 c.requires.2 e) tt).is.same;
-      y_energy = ap (λ (t : ℕ × ℕ). c.args.before.y_energy + t.0) c.energies-y-energy.ensures;
-      h_energy = ap (λ (t : ℕ × ℕ). c.args.before.h_energy + t.1) c.energies-y-energy.ensures;
+      y_energy = ap (λ (t : ℕ × ℕ). c.args.before.y_energy + t.0) c.energies-y_energy.ensures;
+      h_energy = ap (λ (t : ℕ × ℕ). c.args.before.h_energy + t.1) c.energies-y_energy.ensures;
       weight = refl;
     }

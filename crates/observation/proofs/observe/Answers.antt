@@ -21,16 +21,16 @@ fewer {i} {n} {r} l s = record { re = up (nat_abs r.z_re) s.re; im = up (nat_abs
 pub joined-total-requires : goal.joined-total-requires
 joined-total-requires c = (
   fewer {n = 3} (omega arith) c.loop-i.invariant.1,
-  All-get_or Ranged c.args.y.now c.loop-i.i nothing (omega arith) c.requires.y-ranged,
-  All-get_or Ranged c.args.h.now c.loop-i.i nothing (omega arith) c.requires.h-ranged,
+  All-get_or Ranged c.args.y.now c.loop-i.i nothing (omega arith) c.requires.y_ranged,
+  All-get_or Ranged c.args.h.now c.loop-i.i nothing (omega arith) c.requires.h_ranged,
 )
 
 pub loop-i-preserved : goal.loop-i-preserved
 loop-i-preserved c = (
   join_more c.args.y.now c.args.h.now c.args.weight c.loop-i.i nothing c.requires.alike (omega arith) c.loop-i.invariant.0 c.joined-total.ensures,
   sum_small c.loop-i.i c.loop-i.invariant.1 c.joined-total.ensures
-      (All-get_or Ranged c.args.y.now c.loop-i.i nothing (omega arith) c.requires.y-ranged)
-      (All-get_or Ranged c.args.h.now c.loop-i.i nothing (omega arith) c.requires.h-ranged),
+      (All-get_or Ranged c.args.y.now c.loop-i.i nothing (omega arith) c.requires.y_ranged)
+      (All-get_or Ranged c.args.h.now c.loop-i.i nothing (omega arith) c.requires.h_ranged),
 )
 
 measured : {r : Record} {w : ℕ} → Summed 4 r → r.weight ≡ w → w ≤ 1023 → Measured r

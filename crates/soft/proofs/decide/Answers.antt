@@ -18,14 +18,14 @@ loop-i-init c =
 room : (n m i l k : ℕ) → l ≡ k → k ≡ n * m → i < n → i * m + m ≤ l
 room n m i l k e f h = omega (arith, row_room n m i h)
 
-pub slice_bounds-decide-row-end : goal.slice_bounds-decide-row-end
-slice_bounds-decide-row-end c =
+pub slice_bounds-decide_row-end : goal.slice_bounds-decide_row-end
+slice_bounds-decide_row-end c =
     let m = c.args.chart.now.m in
     let within : c.loop-i.i * m + m ≤ length c.loop-i.out = room c.args.table.now.len m c.loop-i.i _ _ c.loop-i.auto.out c.requires.room c.loop-i-test.true in
     search rules
 
-pub decide-row-requires : goal.decide-row-requires
-decide-row-requires c =
+pub decide_row-requires : goal.decide_row-requires
+decide_row-requires c =
     let m = c.args.chart.now.m in
     let at = c.loop-i.i * m in
     let within : at + m ≤ length c.loop-i.out = room c.args.table.now.len m c.loop-i.i _ _ c.loop-i.auto.out c.requires.room c.loop-i-test.true in
@@ -50,9 +50,9 @@ loop-i-preserved c =
     let n : length (take t.len t.records) ≡ t.len = length-take-le t.len t.records (omega arith) in
     let l : i < length (take t.len t.records) = omega arith in
     let r : get_or (take t.len t.records) i blank ≡ get_or t.records i blank = get_or-take t.len t.records i blank under in
-    let f : ◌≡◌ {A = List ℕ} c.decide-row.new.out (decided kept_value (chart_meaning c.args.chart.now) t.shift (record { symbol = get_or (take t.len t.records) i blank; priors = take m (drop at t.priors) })) =
-    c.decide-row.ensures ∙ ap (λ (x : Record). decided kept_value (chart_meaning c.args.chart.now) t.shift (record { symbol = x; priors = take m (drop at t.priors) })) (sym r) in
-    filled_more (decided kept_value (chart_meaning c.args.chart.now) t.shift) m (λ y. length-map-range_with_len _ 1 m) (take t.len t.records) t.priors c.args.out.now c.loop-i.out c.decide-row.new.out i (at + m - at) l k c.loop-i.invariant f
+    let f : ◌≡◌ {A = List ℕ} c.decide_row.new.out (decided kept_value (chart_meaning c.args.chart.now) t.shift (record { symbol = get_or (take t.len t.records) i blank; priors = take m (drop at t.priors) })) =
+    c.decide_row.ensures ∙ ap (λ (x : Record). decided kept_value (chart_meaning c.args.chart.now) t.shift (record { symbol = x; priors = take m (drop at t.priors) })) (sym r) in
+    filled_more (decided kept_value (chart_meaning c.args.chart.now) t.shift) m (λ y. length-map-range_with_len _ 1 m) (take t.len t.records) t.priors c.args.out.now c.loop-i.out c.decide_row.new.out i (at + m - at) l k c.loop-i.invariant f
 
 pub returns : goal.returns
 returns c =

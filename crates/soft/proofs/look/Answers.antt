@@ -27,4 +27,4 @@ returns c =
     let a = to_z-of_z w16 (get_or t.priors (i * m + (k - 1)) (pos 0)) fa ∙ prior-at m i k t.priors c.requires.least c.requires.most in
     let e = value-at value m k c.row.new.out _ c.requires.least c.requires.most c.row.ensures in
     let fe : SFits w16 (get_or (c.row.new.out ++ drop (m - 0) (drop 0 (pos 0 ∷ pos 0 ∷ pos 0 ∷ pos 0 ∷ pos 0 ∷ pos 0 ∷ pos 0 ∷ pos 0 ∷ []))) (k - 1) (pos 0)) = search rules in
-    c.with-posterior.ensures ∙ triple a (to_z-of_z w16 _ fe ∙ e)
+    c.with_posterior.ensures ∙ triple a (to_z-of_z w16 _ fe ∙ e)

@@ -20,8 +20,8 @@ slice_bounds-priors-end c =
     let room : c.args.i * m + m ≤ 1024 = omega (arith, row_room t.len m c.args.i c.requires.within, table_room t.len m few small) in
     search rules
 
-pub extrinsic-values-requires : goal.extrinsic-values-requires
-extrinsic-values-requires c =
+pub extrinsic_values-requires : goal.extrinsic_values-requires
+extrinsic_values-requires c =
     let t = c.args.table.now in
     let m = c.args.chart.now.m in
     let few = t.few in
@@ -49,5 +49,5 @@ returns c =
     let m = c.args.chart.now.m in
     let at = c.args.i * m in
     let k : at + m - at ≡ m = omega arith in
-    c.extrinsic-values.ensures.values
+    c.extrinsic_values.ensures.values
     ∙ ap (λ j. map (kept_value (chart_meaning c.args.chart.now) t.shift (get_or t.records c.args.i blank) (take j (drop at t.priors))) (range_with_len 1 m)) k

@@ -1,5 +1,5 @@
 use Rattle.detect.proofs.submetric.prior_sum.Goals as goal
-use Rattle.detect.proofs.submetric.prior_sum.Goals.{then-bit-at, else-bit-at}
+use Rattle.detect.proofs.submetric.prior_sum.Goals.{then-bit_at, else-bit_at}
 use Rattle.std.proofs.Common.{◌≡◌, ℕ, ◌+◌, ◌*◌, ◌<◌, ◌≤◌, Bool, true, false, cond, List, get_or, ℤ, pos, ◌+ℤ◌, nat_abs, sym, refl, ap, ◌∙◌, add-one, arith, w16, w64, to_z, of_z}
 use Rattle.std.proofs.lemmas.Int.{ints}
 use Rattle.std.proofs.ByRecursion.{All-get_or}
@@ -44,11 +44,11 @@ abbrev Small : ℤ → Type 0
 Small x = nat_abs x ≤ 8191
 
 pub loop-j-preserved : goal.loop-j-preserved
-loop-j-preserved c = elim c.if-bit-at.branch [
-  | then-bit-at w ↦ sum_next (get_or c.args.a.now c.loop-j.j (pos 0)) c.loop-j.j w.sum-is c.loop-j.invariant.0
-      (prior_sum-more c.args.m c.args.label c.args.a.now c.loop-j.j true (sym w.if-bit-at.ensures))
+loop-j-preserved c = elim c.if-bit_at.branch [
+  | then-bit_at w ↦ sum_next (get_or c.args.a.now c.loop-j.j (pos 0)) c.loop-j.j w.sum-is c.loop-j.invariant.0
+      (prior_sum-more c.args.m c.args.label c.args.a.now c.loop-j.j true (sym w.if-bit_at.ensures))
       c.loop-j.invariant.1 (All-get_or Small c.args.a.now c.loop-j.j (pos 0) (omega arith) c.requires.2) (omega arith)
-  | else-bit-at w ↦ sum_same c.loop-j.j w.sum-is c.loop-j.invariant.0
-      (prior_sum-more c.args.m c.args.label c.args.a.now c.loop-j.j false (sym w.if-bit-at.ensures))
+  | else-bit_at w ↦ sum_same c.loop-j.j w.sum-is c.loop-j.invariant.0
+      (prior_sum-more c.args.m c.args.label c.args.a.now c.loop-j.j false (sym w.if-bit_at.ensures))
       c.loop-j.invariant.1
 ]

@@ -42,8 +42,8 @@ bests-best-requires c =
 held_at : {m : ℕ} (t : List (ℤ × ℤ)) (k : ℕ) → length t ≡ 8 → k < m → m ≤ 8 → All Held t → Held (get_or t k (pos 0, pos 0))
 held_at t k e h l all = All-get_or Held t k (pos 0, pos 0) (omega arith) all
 
-value-at : {m : ℕ} (a : List ℤ) (k : ℕ) → k < m → length a ≡ m → All Small a → Small (get_or a k (pos 0))
-value-at a k h e all = All-get_or Small a k (pos 0) (omega arith) all
+value_at : {m : ℕ} (a : List ℤ) (k : ℕ) → k < m → length a ≡ m → All Small a → Small (get_or a k (pos 0))
+value_at a k h e all = All-get_or Small a k (pos 0) (omega arith) all
 
 pub valued-requires : goal.valued-requires
 valued-requires c =
@@ -53,7 +53,7 @@ valued-requires c =
       one_in = small 2305843009213693952 (kept w64 (given (get_or best c.loop-j.j (pos 0, pos 0)).0 both.one) tt) tt;
       zero_in = small 2305843009213693952 (kept w64 (given (get_or best c.loop-j.j (pos 0, pos 0)).1 both.zero) tt) tt;
       shift_in = c.requires.shifted;
-      a_in = small 8191 (kept w16 (given (get_or c.args.priors.now c.loop-j.j (pos 0)) (value-at c.args.priors.now c.loop-j.j c.loop-j-test.true c.requires.known c.requires.ranged)) tt) tt;
+      a_in = small 8191 (kept w16 (given (get_or c.args.priors.now c.loop-j.j (pos 0)) (value_at c.args.priors.now c.loop-j.j c.loop-j-test.true c.requires.known c.requires.ranged)) tt) tt;
     }
 
 none : (k : ℕ) → k < 0 → ⊥
@@ -80,7 +80,7 @@ loop-j-preserved c =
     let at = c.bests-best.ensures.at c.loop-j.j c.loop-j-test.true in
     let o = kept w64 (given (get_or best c.loop-j.j (pos 0, pos 0)).0 both.one) tt in
     let z = kept w64 (given (get_or best c.loop-j.j (pos 0, pos 0)).1 both.zero) tt in
-    let a = kept w16 (given (get_or c.args.priors.now c.loop-j.j (pos 0)) (value-at c.args.priors.now c.loop-j.j c.loop-j-test.true c.requires.known c.requires.ranged)) tt in
+    let a = kept w16 (given (get_or c.args.priors.now c.loop-j.j (pos 0)) (value_at c.args.priors.now c.loop-j.j c.loop-j-test.true c.requires.known c.requires.ranged)) tt in
     let fit : SFits w16 c.valued.result = record { sfits = c.valued.type-inv } in
     put_more (λ k. kept_value (chart_meaning c.args.chart.now) c.args.shift c.args.observed.now c.args.priors.now (k + 1))
     c.loop-j.out c.loop-j.j (to_z w16 (of_z w16 c.valued.result)) (omega arith) c.loop-j.invariant

@@ -27,25 +27,25 @@ doubled k = omega (arith, pow-add 2 k 1)
 pub overflow_mul-s : goal.overflow_mul-s
 overflow_mul-s c = fits w64 (own c.scale-s.ensures.value c.scale-s.ensures.small c.requires).is tt
 
-pub less-own-d-requires : goal.less-own-d-requires
-less-own-d-requires c = (
+pub less_own-d-requires : goal.less_own-d-requires
+less_own-d-requires c = (
   small 4611686018427387904 (apart c.requires).is tt,
   small 9006099743113216 (keep w64 (own c.scale-s.ensures.value c.scale-s.ensures.small c.requires) tt).is tt,
 )
 
 pub overflow_add-d : goal.overflow_add-d
 overflow_add-d c =
-    let d = less c.less-own-d.ensures.value c.less-own-d.ensures.small (apart c.requires).is (keep w64 (own c.scale-s.ensures.value c.scale-s.ensures.small c.requires) tt).is in
+    let d = less c.less_own-d.ensures.value c.less_own-d.ensures.small (apart c.requires).is (keep w64 (own c.scale-s.ensures.value c.scale-s.ensures.small c.requires) tt).is in
     fits w64 (keep w64 (know d) tt ⊕ keep w64 (know (equal c.scale-s.ensures.value c.scale-s.ensures.small)) tt).is tt
 
 pub floored-requires : goal.floored-requires
 floored-requires c =
-    let d = less c.less-own-d.ensures.value c.less-own-d.ensures.small (apart c.requires).is (keep w64 (own c.scale-s.ensures.value c.scale-s.ensures.small c.requires) tt).is in
+    let d = less c.less_own-d.ensures.value c.less_own-d.ensures.small (apart c.requires).is (keep w64 (own c.scale-s.ensures.value c.scale-s.ensures.small c.requires) tt).is in
     (c.requires.shift_in, small 4629699317425242112 (keep w64 (keep w64 (know d) tt ⊕ keep w64 (know (equal c.scale-s.ensures.value c.scale-s.ensures.small)) tt) tt).is tt)
 
 pub returns : goal.returns
 returns c =
-    let d = less c.less-own-d.ensures.value c.less-own-d.ensures.small (apart c.requires).is (keep w64 (own c.scale-s.ensures.value c.scale-s.ensures.small c.requires) tt).is in
+    let d = less c.less_own-d.ensures.value c.less_own-d.ensures.small (apart c.requires).is (keep w64 (own c.scale-s.ensures.value c.scale-s.ensures.small c.requires) tt).is in
     let sum = keep w64 (keep w64 (know d) tt ⊕ keep w64 (know (equal c.scale-s.ensures.value c.scale-s.ensures.small)) tt) tt in
     let f = kept w64 (is_by c.floored.ensures (shifted (2 ^ (c.args.shift + 1)) sum.is)) tt in
     let fit : SFits w16 c.clipped.result = record { sfits = c.clipped.type-inv } in

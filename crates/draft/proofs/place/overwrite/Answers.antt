@@ -8,7 +8,7 @@ pub returns : goal.returns
 returns c =
     let y = c.args.y.now in
     let r = c.args.reference.now in
-    let s = c.copy-from-slice.new.self ++ post_of 0 (length y - 0) r in
+    let s = c.copy_from_slice.new.self ++ post_of 0 (length y - 0) r in
     let e : s ≡ y ++ drop (length y) r = search rules in
     record {
       value = e;

@@ -3,8 +3,8 @@ use Rattle.constellation.specs.Ordered.{permutes, relabel}
 use Rattle.constellation.proofs.OrderLaws.{ordered_at}
 use Rattle.order.proofs.OrderConstellation.point.Goals as goal
 
-pub returns-then-is-order : goal.returns-then-is-order
-returns-then-is-order g c =
+pub returns-then-is_order : goal.returns-then-is_order
+returns-then-is_order g c =
     let s = c.args.self.now in
     let M = g.C.Constellation.meaning s.below in
     let L = g.met.C.Constellation.lawful s.below in

@@ -41,17 +41,17 @@ module _ (C : Contents) (s : Shape C) (number : ℕ) (c : Catalogue) (is : catal
       ap (λ (q : Catalogue). (catalogue_meaning q).m) (same ∙ F.same)
       ∙ (ap (λ (M : Meaning). M.m) is ∙ offered-bits C.mode s.mode_low s.mode_high)
 
-pub tell-all-requires : goal.tell-all-requires
-tell-all-requires c =
+pub tell_all-requires : goal.tell_all-requires
+tell_all-requires c =
     let f = c.args.file in
     let C = contents_of (laid f) in
     let s = c.requires.shape in
     let n = c.args.number in
-    let k = c.constellation-of-c.result in
-    let e = c.constellation-of-c.ensures in
+    let k = c.constellation_of-c.result in
+    let e = c.constellation_of-c.ensures in
     let a = c.in_ok-placed.placed in
     let F = c.in_ok-placed.ensures in
-    let z = c.in_ok-check-priors.ensures in
+    let z = c.in_ok-check_priors.ensures in
     let b = c.close-burst.result in
     let d = c.close-burst.ensures.same in
     let P = c.close-burst.ensures.closed in
@@ -74,11 +74,11 @@ returns c =
     let C = contents_of (laid f) in
     let s = c.requires.shape in
     let n = c.args.number in
-    let k = c.constellation-of-c.result in
-    let e = c.constellation-of-c.ensures in
+    let k = c.constellation_of-c.result in
+    let e = c.constellation_of-c.ensures in
     let a = c.in_ok-placed.placed in
     let F = c.in_ok-placed.ensures in
-    let z = c.in_ok-check-priors.ensures in
+    let z = c.in_ok-check_priors.ensures in
     let b = c.close-burst.result in
     let d = c.close-burst.ensures.same in
     let P = c.close-burst.ensures.closed in
@@ -87,9 +87,9 @@ returns c =
     let v = no_fault C s n k e a F z b d P in
     let m = bits C s n k e a F z b d P in
     let q = closed_kept (catalogue_meaning b.c) b.table in
-    let l = c.tell-all.new.burst in
-    let t = c.tell-all.ensures.told in
-    let same : l.c ≡ b.c = c.tell-all.ensures.same in
+    let l = c.tell_all.new.burst in
+    let t = c.tell_all.ensures.told in
+    let same : l.c ≡ b.c = c.tell_all.ensures.same in
     let full : Stands (closed_kept (catalogue_meaning b.c) l.table) (file_state C n)
     = subst (λ (M : Meaning). Stands (closed_kept (catalogue_meaning b.c) l.table) (told_all (closed (placed_all C.mode (opened M n C.shift) C.vectors)) C.priors)) e
     (t ∙ told-stands q (closed o) C.priors st) in
@@ -106,12 +106,12 @@ returns-in_err-placed c =
     let p = err_from_is_err_and c.from-residual.result c.from-residual.ensures.1 in
     rw (p.1, p.2) c.in_err-placed.ensures
 
-pub returns-in_err-check-priors : goal.returns-in_err-check-priors
-returns-in_err-check-priors c =
+pub returns-in_err-check_priors : goal.returns-in_err-check_priors
+returns-in_err-check_priors c =
     let F = c.in_ok-placed.ensures in
-    let p = err_from_is_err_and c.from-residual-in_err-check-priors.result c.from-residual-in_err-check-priors.ensures.1 in
-    rw (p.1, p.2) (F.fault ∙ ap (numbered_fault 0) c.in_err-check-priors.ensures)
+    let p = err_from_is_err_and c.from-residual-in_err-check_priors.result c.from-residual-in_err-check_priors.ensures.1 in
+    rw (p.1, p.2) (F.fault ∙ ap (numbered_fault 0) c.in_err-check_priors.ensures)
 
-pub returns-in_err-tell-all : goal.returns-in_err-tell-all
-returns-in_err-tell-all c =
-    absurd (apart c.tell-all.result tt c.in_err-tell-all.field-0.0 c.tell-all.ensures.accepted c.in_err-tell-all.was)
+pub returns-in_err-tell_all : goal.returns-in_err-tell_all
+returns-in_err-tell_all c =
+    absurd (apart c.tell_all.result tt c.in_err-tell_all.field-0.0 c.tell_all.ensures.accepted c.in_err-tell_all.was)

@@ -12,7 +12,7 @@ returns c =
     let bs = c.args.bytes.now in
     let l = laid c.in_ok-file.file in
     let cuts = c.in_ok-file.ensures.cuts in
-    MatchResult-weaker c.burst-of.result c.burst-of.ensures
+    MatchResult-weaker c.burst_of.result c.burst_of.ensures
     (λ b h. (held_as bs l c.args.number (closed_kept (catalogue_meaning b.c) b.table) cuts h.0 h.1, h.2, h.3))
     (λ e h. refused_as bs l e cuts h)
 

@@ -26,8 +26,8 @@ moved c d a b p r e h = subst (λ (q : Catalogue). PlacedBy (open_kept (catalogu
 few : (mode a : ℕ) → a ≤ 4 → channel_of mode a ≤ 4
 few mode a le = grind arith
 
-pub place-record-requires : goal.place-record-requires
-place-record-requires c =
+pub place_record-requires : goal.place_record-requires
+place_record-requires c =
     let f = c.args.file in
     let ch = few f.settings.mode f.settings.antennas c.requires.shape.antennas_high in
     record {
@@ -51,37 +51,37 @@ loop-i-preserved c =
     let b = c.in_ok-burst.burst in
     let i = c.loop-i.i in
     let v = shown c.record-record.result in
-    let r = c.place-record.result in
+    let r = c.place_record.result in
     let d = c.loop-i.burst.draft in
-    let d' = c.place-record.new.burst.draft in
-    let P = moved c.loop-i.burst.c b.c d d' (placing_of f.settings.mode v) r c.loop-i.invariant.1 c.place-record.ensures.placed in
+    let d' = c.place_record.new.burst.draft in
+    let P = moved c.loop-i.burst.c b.c d d' (placing_of f.settings.mode v) r c.loop-i.invariant.1 c.place_record.ensures.placed in
     let lt : i < length C.vectors = omega (arith, c.requires.whole.vectors, c.loop-i-test.true) in
-    let said : c.in-record.result ≡ numbered (i + 1) r = c.in-record.ensures ∙ ap (λ (n : ℕ). numbered n r) c.number-of.ensures in
-    let ok : r ≡ Ok tt = numbered_ok (i + 1) r c.in-record.result c.in_ok-in-record.field-0 said c.in_ok-in-record.was in (
+    let said : c.in_record.result ≡ numbered (i + 1) r = c.in_record.ensures ∙ ap (λ (n : ℕ). numbered n r) c.number_of.ensures in
+    let ok : r ≡ Ok tt = numbered_ok (i + 1) r c.in_record.result c.in_ok-in_record.field-0 said c.in_ok-in_record.was in (
       along_step C c.requires.shape (opened (catalogue_meaning b.c) c.args.number f.settings.shift) i (open_kept (catalogue_meaning b.c) d) (open_kept (catalogue_meaning b.c) d') v r lt c.record-record.ensures.entry c.loop-i.invariant.0 P ok,
-      c.place-record.ensures.same ∙ c.loop-i.invariant.1,
+      c.place_record.ensures.same ∙ c.loop-i.invariant.1,
     )
 
-pub returns-in_err-in-record : goal.returns-in_err-in-record
-returns-in_err-in-record c =
+pub returns-in_err-in_record : goal.returns-in_err-in_record
+returns-in_err-in_record c =
     let f = c.args.file in
     let C = contents_of (laid f) in
     let b = c.in_ok-burst.burst in
     let i = c.loop-i.i in
     let v = shown c.record-record.result in
-    let r = c.place-record.result in
+    let r = c.place_record.result in
     let d = c.loop-i.burst.draft in
-    let d' = c.place-record.new.burst.draft in
-    let P = moved c.loop-i.burst.c b.c d d' (placing_of f.settings.mode v) r c.loop-i.invariant.1 c.place-record.ensures.placed in
+    let d' = c.place_record.new.burst.draft in
+    let P = moved c.loop-i.burst.c b.c d d' (placing_of f.settings.mode v) r c.loop-i.invariant.1 c.place_record.ensures.placed in
     let lt : i < length C.vectors = omega (arith, c.requires.whole.vectors, c.loop-i-test.true) in
-    let said : c.in-record.result ≡ numbered (i + 1) r = c.in-record.ensures ∙ ap (λ (n : ℕ). numbered n r) c.number-of.ensures in
-    let e = numbered_err (i + 1) r c.in-record.result c.in_err-in-record.field-0.0 said c.in_err-in-record.was in
+    let said : c.in_record.result ≡ numbered (i + 1) r = c.in_record.ensures ∙ ap (λ (n : ℕ). numbered n r) c.number_of.ensures in
+    let e = numbered_err (i + 1) r c.in_record.result c.in_err-in_record.field-0.0 said c.in_err-in_record.was in
     let refused = along_refused C c.requires.shape (opened (catalogue_meaning b.c) c.args.number f.settings.shift) i (open_kept (catalogue_meaning b.c) d) (open_kept (catalogue_meaning b.c) d') v r lt c.record-record.ensures.entry c.loop-i.invariant.0 P e.0 e.2 in
     let o = c.in_ok-burst.ensures in
-    let fault : values_fault C ≡ Some c.in_err-in-record.field-0.0
+    let fault : values_fault C ≡ Some c.in_err-in_record.field-0.0
     = shift_passed (leb C.shift 40) _ _ o.0
     ∙ (ap (λ (q : Option FileRefusal). or_else q (numbered_fault 0 (priors_fault 1 C.priors))) refused ∙ ap (λ (x : FileRefusal). Some x) (sym e.1)) in
-    let p = err_from_is_err_and c.from-residual-in_err-in-record.result c.from-residual-in_err-in-record.ensures.1 in
+    let p = err_from_is_err_and c.from-residual-in_err-in_record.result c.from-residual-in_err-in_record.ensures.1 in
     rw (p.1, p.2) fault
 
 pub returns-in_err-burst : goal.returns-in_err-burst

@@ -16,7 +16,7 @@ loop-k-preserved c =
     let ly : k < length ys = omega (arith, n, pairs_count c.args.pairs.now) in
     let v = c.sample.result in
     let d = pair_of (pos 0) (pos 0) in
-    let is : v ≡ get_or ys k (sample_of d) = c.sample.ensures ∙ (ap sample_of c.pair-at.ensures ∙ sym (get_or-mapped sample_of ps k d)) in
+    let is : v ≡ get_or ys k (sample_of d) = c.sample.ensures ∙ (ap sample_of c.pair_at.ensures ∙ sym (get_or-mapped sample_of ps k d)) in
     (length-set xs k v ∙ c.loop-k.invariant.0, fill_step xs ys k v (sample_of d) lx ly is c.loop-k.invariant.1)
 
 pub returns : goal.returns

@@ -24,8 +24,8 @@ fits bs n m w i e is lt =
     let h = halves bs in
     (omega arith, omega (arith, h.1))
 
-pub tell-symbol-requires : goal.tell-symbol-requires
-tell-symbol-requires c =
+pub tell_symbol-requires : goal.tell_symbol-requires
+tell_symbol-requires c =
     let b = c.args.burst.now in
     let bs = c.args.priors.now in
     let k = closed_kept (catalogue_meaning b.c) b.table in
@@ -48,14 +48,14 @@ loop-i-preserved c =
     let some : 0 < length bs = search rules in
     let lt : c.loop-i.i < length k.symbols = omega (arith, c.symbols-i-end.ensures, c.loop-i-test.true) in
     let w = fits bs (length k.symbols) c.positions-m.result M.m c.loop-i.i (c.requires.sized some) c.positions-m.ensures lt in
-    let P = moved c.loop-i.burst.c b.c c.loop-i.burst.table c.tell-symbol.new.burst.table _ c.tell-symbol.result c.loop-i.invariant.1 c.tell-symbol.ensures.told in (
-      told-step k (closed_kept M c.loop-i.burst.table) (closed_kept M c.tell-symbol.new.burst.table) c.positions-m.result c.loop-i.i (signeds_of bs) c.tell-symbol.result
+    let P = moved c.loop-i.burst.c b.c c.loop-i.burst.table c.tell_symbol.new.burst.table _ c.tell_symbol.result c.loop-i.invariant.1 c.tell_symbol.ensures.told in (
+      told-step k (closed_kept M c.loop-i.burst.table) (closed_kept M c.tell_symbol.new.burst.table) c.positions-m.result c.loop-i.i (signeds_of bs) c.tell_symbol.result
           c.loop-i.invariant.0 c.positions-m.ensures lt c.requires.idle c.requires.ranged w.1 P,
-      c.tell-symbol.ensures.same ∙ c.loop-i.invariant.1,
+      c.tell_symbol.ensures.same ∙ c.loop-i.invariant.1,
     )
 
-pub returns-in_err-tell-symbol : goal.returns-in_err-tell-symbol
-returns-in_err-tell-symbol c =
+pub returns-in_err-tell_symbol : goal.returns-in_err-tell_symbol
+returns-in_err-tell_symbol c =
     let b = c.args.burst.now in
     let bs = c.args.priors.now in
     let M = catalogue_meaning b.c in
@@ -63,10 +63,10 @@ returns-in_err-tell-symbol c =
     let some : 0 < length bs = search rules in
     let lt : c.loop-i.i < length k.symbols = omega (arith, c.symbols-i-end.ensures, c.loop-i-test.true) in
     let w = fits bs (length k.symbols) c.positions-m.result M.m c.loop-i.i (c.requires.sized some) c.positions-m.ensures lt in
-    let P = moved c.loop-i.burst.c b.c c.loop-i.burst.table c.tell-symbol.new.burst.table _ c.tell-symbol.result c.loop-i.invariant.1 c.tell-symbol.ensures.told in
-    let ok = told-accepted k (closed_kept M c.loop-i.burst.table) (closed_kept M c.tell-symbol.new.burst.table) c.positions-m.result c.loop-i.i (signeds_of bs) c.tell-symbol.result
+    let P = moved c.loop-i.burst.c b.c c.loop-i.burst.table c.tell_symbol.new.burst.table _ c.tell_symbol.result c.loop-i.invariant.1 c.tell_symbol.ensures.told in
+    let ok = told-accepted k (closed_kept M c.loop-i.burst.table) (closed_kept M c.tell_symbol.new.burst.table) c.positions-m.result c.loop-i.i (signeds_of bs) c.tell_symbol.result
     c.loop-i.invariant.0 c.positions-m.ensures lt c.requires.idle c.requires.ranged w.1 P in
-    let not = c.in_err-tell-symbol.was in
+    let not = c.in_err-tell_symbol.was in
     let z : ◌≡◌ {A = ℕ} 0 1 = cc (ok, not) in
     absurd (omega arith)
 
@@ -82,8 +82,8 @@ returns c =
     let le : length k.symbols ≤ c.loop-i.i = omega (arith, c.symbols-i-end.ensures, c.loop-i-test.false) in
     record { accepted = refl; told = c.loop-i.invariant.0 ∙ told_end k c.loop-i.i (signeds_of bs) n le; same = c.loop-i.invariant.1 }
 
-pub returns-then-is-empty : goal.returns-then-is-empty
-returns-then-is-empty c =
+pub returns-then-is_empty : goal.returns-then-is_empty
+returns-then-is_empty c =
     let b = c.args.burst.now in
     let none : length c.args.priors.now ≡ 0 = search rules in
     record { accepted = refl; told = told_none (closed_kept (catalogue_meaning b.c) b.table) c.args.priors.now none; same = refl }

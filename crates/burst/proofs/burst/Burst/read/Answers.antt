@@ -11,8 +11,8 @@ use Rattle.soft.proofs.Rows.{of_paired}
 use Rattle.burst.proofs.Detected.{read_by, seen_at}
 use Rattle.burst.proofs.burst.Burst.read.Goals as goal
 
-pub returns-in_err-may-read : goal.returns-in_err-may-read
-returns-in_err-may-read g c =
+pub returns-in_err-may_read : goal.returns-in_err-may_read
+returns-in_err-may_read g c =
     let b = c.args.self.now in
     let t = b.table in
     let M = g.C.Constellation.meaning b.c in
@@ -21,7 +21,7 @@ returns-in_err-may-read g c =
     let k = c.args.position in
     let p = err_from_is_err_and c.from-residual.result c.from-residual.ensures.1 in
     let e : Err p.0 ≡ verdict (outlined M.m (view t)) (read i k) =
-    ap (λ x. Err x) p.2 ∙ c.in_err-may-read.ensures ∙ ap (λ n. verdict (outlined n (view t)) (read i k)) (ap (λ N. N.m) c.of-chart.ensures.meaning) in
+    ap (λ x. Err x) p.2 ∙ c.in_err-may_read.ensures ∙ ap (λ n. verdict (outlined n (view t)) (read i k)) (ap (λ N. N.m) c.of-chart.ensures.meaning) in
     read_by M (g.met.C.Constellation.lawful b.c) (view t) W i k c.from-residual.result (Err p.0) e p.1
 
 pub returns : goal.returns
@@ -33,6 +33,6 @@ returns g c =
     let i = c.args.symbol in
     let k = c.args.position in
     let e : Ok tt ≡ verdict (outlined M.m (view t)) (read i k) =
-    c.in_ok-may-read.ensures ∙ ap (λ n. verdict (outlined n (view t)) (read i k)) (ap (λ N. N.m) c.of-chart.ensures.meaning) in
+    c.in_ok-may_read.ensures ∙ ap (λ n. verdict (outlined n (view t)) (read i k)) (ap (λ N. N.m) c.of-chart.ensures.meaning) in
     read_by M (g.met.C.Constellation.lawful b.c) (view t) W i k (Ok c.look.result) (Ok tt) e
     (ap (λ r. Ok r) (seen_at M (view t) W i k _ _ c.of-chart.ensures.meaning e c.look.ensures))

@@ -12,7 +12,7 @@ returns g c =
     let few = d.few in
     let whole = d.whole in
     record {
-      placed = placed_by (g.C.Constellation.meaning b.c) (view d) (view c.place-differential.new.self) d.len (differential c.args.y.now c.args.weight) c.place-differential.result
-          (length-take-le d.len d.records (omega arith)) c.place-differential.ensures.reply c.place-differential.ensures.left;
+      placed = placed_by (g.C.Constellation.meaning b.c) (view d) (view c.place_differential.new.self) d.len (differential c.args.y.now c.args.weight) c.place_differential.result
+          (length-take-le d.len d.records (omega arith)) c.place_differential.ensures.reply c.place_differential.ensures.left;
       same = refl;
     }

@@ -22,4 +22,4 @@ returns g c =
     let i = c.index.result in
     let e : place c.args.number (length M.points * length (copies s.plan)) ≡ i = cc (c.size.ensures, c.copies.ensures.value, c.index.ensures.value) in
     let w : i < length M.points * length (copies s.plan) = rw (← c.size.ensures, ← c.copies.ensures.value) c.index.ensures.within in
-    c.nth-copied.ensures ∙ sym (layered-at s.plan M L t i w c.args.number e)
+    c.nth_copied.ensures ∙ sym (layered-at s.plan M L t i w c.args.number e)
