@@ -1,2 +1,2 @@
 pub mod Modes
-pub mod CatalogueKeeps
+pub mod CatalogueLaws

@@ -3,7 +3,7 @@
 #![tactic(auto)]
 
 ghost use Rattle.constellation.proofs.Points.{good_nth};
-ghost use Rattle.catalogue.specs.CatalogueKeeps.{catalogue_lawful};
+ghost use Rattle.catalogue.specs.CatalogueLaws.{catalogue_lawful};
 ghost use Rattle.catalogue.specs.Modes.{mode_meaning, catalogue_meaning, Offered, fitted};
 ghost use Rattle.kinds.specs.Psks.{psk_meaning};
 ghost use Rattle.rings.specs.Made.{ring_plan, ratio_plan};

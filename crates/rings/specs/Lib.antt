@@ -1,4 +1,4 @@
 pub mod Copies
 pub mod Layered
 pub mod Made
-pub mod LayerKeeps
+pub mod LayerLaws

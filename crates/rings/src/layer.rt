@@ -3,7 +3,7 @@
 ghost use Rattle.std.specs.Prelude.{◌≡◌, ◌+◌, ◌*◌, ◌^◌, ◌<◌, ◌≤◌, true, length, Some};
 ghost use Rattle.constellation.specs.Meaning.{place};
 ghost use Rattle.constellation.proofs.Points.{good_nth};
-ghost use Rattle.rings.specs.LayerKeeps.{layer_keeps};
+ghost use Rattle.rings.specs.LayerLaws.{layered_lawful};
 ghost use Rattle.rings.specs.Copies.{copies};
 ghost use Rattle.rings.specs.Layered.{scaled, copied, copied_at, room};
 ghost use Rattle.rings.specs.Made.{Answered, layer_meaning};
@@ -82,9 +82,9 @@ impl<C: Constellation + Drop> Layer<C> {
 impl<C: Constellation> Constellation for Layer<C> {
     ghost meaning = { layer_meaning C.Constellation.meaning };
 
-    ghost lawful = { λ s. layer_keeps s.plan _ (C.Constellation.lawful s.below) };
+    ghost lawful = { λ s. layered_lawful s.plan _ (C.Constellation.lawful s.below) };
 
-    ghost good = { λ s n. good_nth _ (layer_keeps s.plan _ (C.Constellation.lawful s.below)) n };
+    ghost good = { λ s n. good_nth _ (layered_lawful s.plan _ (C.Constellation.lawful s.below)) n };
 
     fn m(&self) -> u8 {
         if fits(&self.below, self.plan) {

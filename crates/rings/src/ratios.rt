@@ -1,7 +1,7 @@
 //! The layer of ratios: the points below at several ratios to the symbol before, the exponent in Gray code at the end of the label.
 
 ghost use Rattle.constellation.proofs.Points.{good_nth};
-ghost use Rattle.rings.specs.LayerKeeps.{layer_keeps};
+ghost use Rattle.rings.specs.LayerLaws.{layered_lawful};
 ghost use Rattle.rings.specs.Made.{Answered, ratio_plan, ratios_meaning};
 
 use crate::layer::Layer;
@@ -29,9 +29,9 @@ impl<C: Constellation + Drop> Ratios<C> {
 impl<C: Constellation> Constellation for Ratios<C> {
     ghost meaning = { ratios_meaning C.Constellation.meaning };
 
-    ghost lawful = { λ s. layer_keeps s.layer.plan _ (C.Constellation.lawful s.layer.below) };
+    ghost lawful = { λ s. layered_lawful s.layer.plan _ (C.Constellation.lawful s.layer.below) };
 
-    ghost good = { λ s n. good_nth _ (layer_keeps s.layer.plan _ (C.Constellation.lawful s.layer.below)) n };
+    ghost good = { λ s n. good_nth _ (layered_lawful s.layer.plan _ (C.Constellation.lawful s.layer.below)) n };
 
     fn m(&self) -> u8 {
         self.layer.m()

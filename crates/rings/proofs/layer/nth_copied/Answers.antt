@@ -1,4 +1,4 @@
-use Rattle.rings.proofs.LayerLaws.{copy_within, copy_narrow, label_room}
+use Rattle.rings.specs.LayerLaws.{copy_within, copy_narrow, label_room}
 use Rattle.rings.proofs.layer.nth_copied.Goals as goal
 
 pub copy-requires : goal.copy-requires

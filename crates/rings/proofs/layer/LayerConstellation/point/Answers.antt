@@ -2,7 +2,7 @@ use Rattle.std.proofs.Common.{◌≡◌, ◌*◌, ◌<◌, true, length, sym, ap
 use Rattle.constellation.specs.Meaning.{place}
 use Rattle.rings.specs.Copies.{copies}
 use Rattle.rings.specs.Layered.{room}
-use Rattle.rings.proofs.LayerLaws.{layered_some, layered-at}
+use Rattle.rings.specs.LayerLaws.{layered_some, layered-at}
 use Rattle.rings.proofs.layer.LayerConstellation.point.Goals as goal
 
 pub index-requires : goal.index-requires

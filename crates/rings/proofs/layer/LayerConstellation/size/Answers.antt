@@ -1,5 +1,5 @@
 use Rattle.std.proofs.Common.{◌≡◌, sym, ◌∙◌}
-use Rattle.rings.proofs.LayerLaws.{layered-size}
+use Rattle.rings.specs.LayerLaws.{layered-size}
 use Rattle.rings.proofs.layer.LayerConstellation.size.Goals as goal
 
 pub returns-then-fits : goal.returns-then-fits

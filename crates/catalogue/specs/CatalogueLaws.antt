@@ -1,7 +1,7 @@
 -- Every constellation of the catalogue keeps the laws.
 use Rattle.constellation.specs.Meaning.{Lawful}
 use Rattle.kinds.specs.KindLaws.{psk_lawful, square_lawful}
-use Rattle.rings.specs.LayerKeeps.{layer_keeps}
+use Rattle.rings.specs.LayerLaws.{layered_lawful}
 use Rattle.catalogue.specs.Modes.{catalogue_meaning}
 use Rattle.catalogue.specs.declared.Catalogue.{Catalogue}
 use Rattle.catalogue.specs.declared.Catalogue.TheVariants.{Psk, Square, Rings, Ratios}
@@ -9,5 +9,5 @@ use Rattle.catalogue.specs.declared.Catalogue.TheVariants.{Psk, Square, Rings, R
 pub catalogue_lawful : (c : Catalogue) → Lawful (catalogue_meaning c)
 catalogue_lawful (Psk k) = psk_lawful k
 catalogue_lawful (Square k) = square_lawful k
-catalogue_lawful (Rings s) = layer_keeps s.layer.plan _ (psk_lawful s.layer.below)
-catalogue_lawful (Ratios s) = layer_keeps s.layer.plan _ (psk_lawful s.layer.below)
+catalogue_lawful (Rings s) = layered_lawful s.layer.plan _ (psk_lawful s.layer.below)
+catalogue_lawful (Ratios s) = layered_lawful s.layer.plan _ (psk_lawful s.layer.below)
