@@ -46,7 +46,7 @@ loop-p-preserved c =
     gather_more c.args.points.now c.loop-p.p-index nowhere c.loop-p-test.true c.requires.3 c.loop-p.invariant b.same v.same u.same
     (record { base_in = small 760000000000000000 b tt; tv_in = small 152700000000000000 v tt; tu_in = small 152700000000000000 u tt })
     c.raised-pv.ensures.value c.raised-pv.ensures.held c.raised-pu.ensures.value c.raised-pu.ensures.held
-    x.same (small 2305843009213693952 x tt) c.type-inv.lows c.noted.ensures c.type-inv.highs c.noted-in-loop-p.ensures
+    x.same (small 2305843009213693952 x tt) c.type_inv.lows c.noted.ensures c.type_inv.highs c.noted-in-loop-p.ensures
 
 none : (k : ℕ) → k < 0 → ⊥
 none k h = omega arith

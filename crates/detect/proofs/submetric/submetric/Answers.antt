@@ -9,7 +9,7 @@ abbrev Small : ℤ → Type 0
 Small x = nat_abs x ≤ 8191
 
 value_at : {shift m u v : ℕ} {a : List ℤ} → Given shift a m u v → (k : ℕ) → 1 ≤ k → k ≤ m → Small (get_or a (k - 1) (pos 0))
-value_at {m = m} {a = a} g k h l = All-get_or Small a (k - 1) (pos 0) (omega (arith, g.a_long)) g.a-in
+value_at {m = m} {a = a} g k h l = All-get_or Small a (k - 1) (pos 0) (omega (arith, g.a_long)) g.a_in
 
 at_place : (a : List ℤ) (k : ℕ) → 1 ≤ k → get_or a (k - 1) (pos 0) ≡ at_bit a k
 at_place a zero h = elim h [ ]

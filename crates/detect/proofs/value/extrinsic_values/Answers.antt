@@ -81,7 +81,7 @@ loop-j-preserved c =
     let o = kept w64 (given (get_or best c.loop-j.j (pos 0, pos 0)).0 both.one) tt in
     let z = kept w64 (given (get_or best c.loop-j.j (pos 0, pos 0)).1 both.zero) tt in
     let a = kept w16 (given (get_or c.args.priors.now c.loop-j.j (pos 0)) (value_at c.args.priors.now c.loop-j.j c.loop-j-test.true c.requires.known c.requires.ranged)) tt in
-    let fit : SFits w16 c.valued.result = record { sfits = c.valued.type-inv } in
+    let fit : SFits w16 c.valued.result = record { sfits = c.valued.type_inv } in
     put_more (λ k. kept_value (chart_meaning c.args.chart.now) c.args.shift c.args.observed.now c.args.priors.now (k + 1))
     c.loop-j.out c.loop-j.j (to_z w16 (of_z w16 c.valued.result)) (omega arith) c.loop-j.invariant
     (to_z-of_z w16 c.valued.result fit ∙ c.valued.ensures

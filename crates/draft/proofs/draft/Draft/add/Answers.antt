@@ -5,12 +5,12 @@ use Rattle.observation.proofs.Sizes.{measured_from}
 use Rattle.protocol.proofs.Fronts.{front_set as leading-set}
 use Rattle.draft.proofs.draft.Draft.add.Goals as goal
 
-pub invariant-of-self : goal.invariant-of-self
-invariant-of-self c =
+pub invariant_of-self : goal.invariant_of-self
+invariant_of-self c =
     let t = c.args.self.now in
     let x = c.args.record in
     let s = leading-set measured t.records t.len x (measured_from x c.requires.sizes) (t.sized ∙ sym t.whole) ∙ t.whole in
-    (omega arith, (length-set t.records t.len x ∙ t.whole, (s, (t.low, (t.four, (t.tuned, (t.most, tt)))))))
+    record { few = omega arith; whole = length-set t.records t.len x ∙ t.whole; sized = s; low = t.low; four = t.four; tuned = t.tuned; most = t.most }
 
 pub returns : goal.returns
 returns c =

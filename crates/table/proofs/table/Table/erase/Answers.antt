@@ -7,8 +7,8 @@ use Rattle.table.specs.Kept.{blank}
 use Rattle.protocol.proofs.Fronts.{front_set, front_at}
 use Rattle.table.proofs.table.Table.erase.Goals as goal
 
-pub invariant-of-self : goal.invariant-of-self
-invariant-of-self c =
+pub invariant_of-self : goal.invariant_of-self
+invariant_of-self c =
     let t = c.args.self.now in
     let i = c.args.symbol - 1 in
     let old = get_or t.records i blank in
@@ -16,10 +16,11 @@ invariant-of-self c =
     let few = t.few in
     let l : i < length t.records = omega arith in
     let old_fits = measured_is old (front_at measured t.records i blank l (t.sized ∙ sym whole)) in
-    let fits : measured (erased_record old) ≡ true = measured_from (erased_record old) (record { re = old_fits.re; im = old_fits.im; y = old_fits.y; h = old_fits.h; w = omega arith }) in (
-      few,
-      (
-        length-set t.records i (erased_record old) ∙ whole,
-        (t.wide, (t.ranged, (front_set measured t.records i (erased_record old) fits (t.sized ∙ sym whole) ∙ whole, (t.low, tt)))),
-      ),
-    )
+    let fits : measured (erased_record old) ≡ true = measured_from (erased_record old) (record { re = old_fits.re; im = old_fits.im; y = old_fits.y; h = old_fits.h; w = omega arith }) in record {
+      few = few;
+      whole = length-set t.records i (erased_record old) ∙ whole;
+      wide = t.wide;
+      ranged = t.ranged;
+      sized = front_set measured t.records i (erased_record old) fits (t.sized ∙ sym whole) ∙ whole;
+      low = t.low;
+    }

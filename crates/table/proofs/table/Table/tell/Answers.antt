@@ -12,12 +12,12 @@ put-requires c =
     let few = c.args.self.now.few in
     omega (arith, symbol_room c.args.self.now.len c.args.m c.args.symbol few c.requires (omega arith) (omega arith))
 
-pub invariant-of-self : goal.invariant-of-self
-invariant-of-self c =
+pub invariant_of-self : goal.invariant_of-self
+invariant_of-self c =
     let t = c.args.self.now in
     let few = t.few in
     let vs = c.args.values.now in
     let ok : Ok tt ≡ each inside vs Range accepted = sym c.in_ok-in_range.was ∙ c.in_range.ensures in
     let room : (c.args.symbol - 1) * c.args.m + length vs ≤ 1024 = omega (arith, symbol_room t.len c.args.m c.args.symbol few c.requires (omega arith) (omega arith)) in
     let w = over-kept inside _ 1024 vs t.priors _ c.put.ensures t.wide t.ranged room (each_front inside vs Range ok) in
-    (few, (t.whole, (w.0, (w.1, (t.sized, (t.low, tt))))))
+    record { few = few; whole = t.whole; wide = w.0; ranged = w.1; sized = t.sized; low = t.low }
