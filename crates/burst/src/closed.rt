@@ -14,7 +14,7 @@ use table::Turn;
 impl<C: Constellation> Burst<C> {
     /// Replaces the a priori values of one symbol, counted from 1.
     pub fn tell(&mut self, symbol: usize, values: &[i16]) -> Result<(), Refusal>
-        ensures told { Called (closed_kept (meaning self.old.c) self.old.table) (telling symbol values.now) result (closed_kept (meaning self.old.c) self.new.table) }
+        ensures told { Called (closed_kept (C.meaning self.old.c) self.old.table) (telling symbol values.now) result (closed_kept (C.meaning self.old.c) self.new.table) }
         ensures same { self.new.c ≡ self.old.c }
     {
         let m = self.c.m();
@@ -23,7 +23,7 @@ impl<C: Constellation> Burst<C> {
 
     /// Writes all extrinsic values to a sheet, symbol by symbol, and gives out a turn.
     pub fn take(&mut self, sheet: &mut [i16]) -> Result<Turn, Refusal>
-        ensures taken { Taken (closed_kept (meaning self.old.c) self.old.table) sheet.old result (closed_kept (meaning self.old.c) self.new.table) sheet.new }
+        ensures taken { Taken (closed_kept (C.meaning self.old.c) self.old.table) sheet.old result (closed_kept (C.meaning self.old.c) self.new.table) sheet.new }
         ensures same { self.new.c ≡ self.old.c }
     {
         let chart = Chart::of(&self.c);
@@ -34,7 +34,7 @@ impl<C: Constellation> Burst<C> {
 
     /// Ends a turn by replacing all a priori values, in the order of a sheet. A refused answer gives the turn back.
     pub fn answer(&mut self, turn: Turn, values: &[i16]) -> Result<(), (Turn, Refusal)>
-        ensures answered { Answered (closed_kept (meaning self.old.c) self.old.table) turn values.now result (closed_kept (meaning self.old.c) self.new.table) }
+        ensures answered { Answered (closed_kept (C.meaning self.old.c) self.old.table) turn values.now result (closed_kept (C.meaning self.old.c) self.new.table) }
         ensures same { self.new.c ≡ self.old.c }
     {
         let m = self.c.m();
@@ -43,7 +43,7 @@ impl<C: Constellation> Burst<C> {
 
     /// Ends a turn and leaves the values. The turn in hand is spent, even where it is refused as foreign.
     pub fn withdraw(&mut self, turn: Turn) -> Result<(), Refusal>
-        ensures withdrawn { Called (closed_kept (meaning self.old.c) self.old.table) (withdrawing turn.burst turn.number) result (closed_kept (meaning self.old.c) self.new.table) }
+        ensures withdrawn { Called (closed_kept (C.meaning self.old.c) self.old.table) (withdrawing turn.burst turn.number) result (closed_kept (C.meaning self.old.c) self.new.table) }
         ensures same { self.new.c ≡ self.old.c }
     {
         self.table.withdraw(turn)
@@ -51,7 +51,7 @@ impl<C: Constellation> Burst<C> {
 
     /// Erases a symbol: its weight becomes 0.
     pub fn erase(&mut self, symbol: usize) -> Result<(), Refusal>
-        ensures erased { Called (closed_kept (meaning self.old.c) self.old.table) (erasing symbol) result (closed_kept (meaning self.old.c) self.new.table) }
+        ensures erased { Called (closed_kept (C.meaning self.old.c) self.old.table) (erasing symbol) result (closed_kept (C.meaning self.old.c) self.new.table) }
         ensures same { self.new.c ≡ self.old.c }
     {
         self.table.erase(symbol)
@@ -59,7 +59,7 @@ impl<C: Constellation> Burst<C> {
 
     /// The standing a priori value, the extrinsic and the posterior value of a symbol's position, both counted from 1.
     pub fn read(&self, symbol: usize, position: usize) -> Result<(i16, i16, i32), Refusal>
-        ensures { Read (closed_kept (meaning self.now.c) self.now.table) symbol position result }
+        ensures { Read (closed_kept (C.meaning self.now.c) self.now.table) symbol position result }
     {
         let chart = Chart::of(&self.c);
         self.table.may_read(chart.m, symbol, position)?;
@@ -68,7 +68,7 @@ impl<C: Constellation> Burst<C> {
 
     /// Writes 1 where the posterior value is above 0, else 0, for every symbol and position, symbol by symbol.
     pub fn hard_decide(&self, bits: &mut [u8]) -> Result<(), Refusal>
-        ensures { Decided (closed_kept (meaning self.now.c) self.now.table) bits.old result bits.new }
+        ensures { Decided (closed_kept (C.meaning self.now.c) self.now.table) bits.old result bits.new }
     {
         let chart = Chart::of(&self.c);
         self.table.may_decide(chart.m, bits.len())?;

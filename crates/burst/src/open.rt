@@ -31,7 +31,7 @@ impl<C: Constellation> OpenBurst<C> {
 
     /// Places a symbol coherently: received as `y` over the reference `h`, with a weight.
     pub fn place(&mut self, y: &[Sample], h: &[Sample], weight: u16) -> Result<(), Refusal>
-        ensures placed { PlacedBy (open_kept (meaning self.old.c) self.old.draft) (coherent y.now h.now weight) result (open_kept (meaning self.old.c) self.new.draft) }
+        ensures placed { PlacedBy (open_kept (C.meaning self.old.c) self.old.draft) (coherent y.now h.now weight) result (open_kept (C.meaning self.old.c) self.new.draft) }
         ensures same { self.new.c ≡ self.old.c }
     {
         self.draft.place(y, h, weight)
@@ -39,7 +39,7 @@ impl<C: Constellation> OpenBurst<C> {
 
     /// Places differentially: the first `y` only is the reference, each later one is a symbol over the one before.
     pub fn place_differential(&mut self, y: &[Sample], weight: u16) -> Result<(), Refusal>
-        ensures placed { PlacedBy (open_kept (meaning self.old.c) self.old.draft) (differential y.now weight) result (open_kept (meaning self.old.c) self.new.draft) }
+        ensures placed { PlacedBy (open_kept (C.meaning self.old.c) self.old.draft) (differential y.now weight) result (open_kept (C.meaning self.old.c) self.new.draft) }
         ensures same { self.new.c ≡ self.old.c }
     {
         self.draft.place_differential(y, weight)
@@ -47,7 +47,7 @@ impl<C: Constellation> OpenBurst<C> {
 
     /// Ends placing. All a priori values are 0, and no turn was given out. The laws over whole runs hold from here on, whatever is called.
     pub fn close(self) -> Burst<C>
-        ensures closed { ClosedBy (open_kept (meaning self.c) self.draft) (closed_kept (meaning result.c) result.table) }
+        ensures closed { ClosedBy (open_kept (C.meaning self.c) self.draft) (closed_kept (C.meaning result.c) result.table) }
         ensures same { result.c ≡ self.c }
         ensures laws { Laws }
     {

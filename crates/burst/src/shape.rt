@@ -9,14 +9,14 @@ use constellation::Constellation;
 impl<C: Constellation> Burst<C> {
     /// How many symbols there are, 0 to 128.
     pub fn symbols(&self) -> usize
-        ensures { result ≡ length (closed_kept (meaning self.now.c) self.now.table).symbols }
+        ensures { result ≡ length (closed_kept (C.meaning self.now.c) self.now.table).symbols }
     {
         self.table.len
     }
 
     /// How many positions each symbol has, 2 to 8.
     pub fn positions(&self) -> usize
-        ensures { result ≡ (meaning self.now.c).m }
+        ensures { result ≡ (C.meaning self.now.c).m }
     {
         self.c.m() as usize
     }
