@@ -103,13 +103,13 @@ returns c =
 
 pub returns-in_err-placed : goal.returns-in_err-placed
 returns-in_err-placed c =
-    let p = err_from_is_err_and c.from-residual.result c.from-residual.ensures.1 in
+    let p = err_from_is_err_and c.from_residual.result c.from_residual.ensures.1 in
     rw (p.1, p.2) c.in_err-placed.ensures
 
 pub returns-in_err-check_priors : goal.returns-in_err-check_priors
 returns-in_err-check_priors c =
     let F = c.in_ok-placed.ensures in
-    let p = err_from_is_err_and c.from-residual-in_err-check_priors.result c.from-residual-in_err-check_priors.ensures.1 in
+    let p = err_from_is_err_and c.from_residual-in_err-check_priors.result c.from_residual-in_err-check_priors.ensures.1 in
     rw (p.1, p.2) (F.fault ∙ ap (numbered_fault 0) c.in_err-check_priors.ensures)
 
 pub returns-in_err-tell_all : goal.returns-in_err-tell_all

@@ -18,5 +18,5 @@ returns c =
 
 pub returns-in_err-file : goal.returns-in_err-file
 returns-in_err-file c =
-    let p = err_from_is_err_and c.from-residual.result c.from-residual.ensures.1 in
+    let p = err_from_is_err_and c.from_residual.result c.from_residual.ensures.1 in
     rw (p.1, p.2) (ap judged_cut c.in_err-file.ensures.cuts)

@@ -81,13 +81,13 @@ returns-in_err-in_record c =
     let fault : values_fault C ≡ Some c.in_err-in_record.field-0.0
     = shift_passed (leb C.shift 40) _ _ o.0
     ∙ (ap (λ (q : Option FileRefusal). or_else q (numbered_fault 0 (priors_fault 1 C.priors))) refused ∙ ap (λ (x : FileRefusal). Some x) (sym e.1)) in
-    let p = err_from_is_err_and c.from-residual-in_err-in_record.result c.from-residual-in_err-in_record.ensures.1 in
+    let p = err_from_is_err_and c.from_residual-in_err-in_record.result c.from_residual-in_err-in_record.ensures.1 in
     rw (p.1, p.2) fault
 
 pub returns-in_err-burst : goal.returns-in_err-burst
 returns-in_err-burst c =
     let C = contents_of (laid c.args.file) in
-    let p = err_from_is_err_and c.from-residual.result c.from-residual.ensures.1 in
+    let p = err_from_is_err_and c.from_residual.result c.from_residual.ensures.1 in
     rw (p.1, p.2) (shift_refused (leb C.shift 40) c.in_err-burst.field-0.0 _ c.in_err-burst.ensures)
 
 pub returns : goal.returns

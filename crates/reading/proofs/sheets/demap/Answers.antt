@@ -41,7 +41,7 @@ returns c =
 
 pub returns-in_err-burst : goal.returns-in_err-burst
 returns-in_err-burst c =
-    let p = err_from_is_err_and c.from-residual.result c.from-residual.ensures.1 in
+    let p = err_from_is_err_and c.from_residual.result c.from_residual.ensures.1 in
     rw (p.1, p.2) (c.in_err-burst.ensures, refl)
 
 pub returns-in_err-turn : goal.returns-in_err-turn

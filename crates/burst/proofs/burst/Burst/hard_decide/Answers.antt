@@ -16,7 +16,7 @@ returns-in_err-may_decide g c =
     let M = g.C.Constellation.meaning b.c in
     let W : Whole (view t) = record { few = t.few; whole = t.whole; wide = t.wide } in
     let xs : List ℕ = c.args.bits.now in
-    let p = err_from_is_err_and c.from-residual.result c.from-residual.ensures.1 in
+    let p = err_from_is_err_and c.from_residual.result c.from_residual.ensures.1 in
     let e : Err p.0 ≡ verdict (outlined M.m (view t)) (decide (length xs)) =
     ap (λ x. Err x) p.2 ∙ c.in_err-may_decide.ensures ∙ ap (λ k. verdict (outlined k (view t)) (decide (length xs))) (ap (λ N. N.m) c.of-chart.ensures.meaning) in
     subst (λ r. Decided (kept M (view t)) xs r xs) (sym p.1) (decided_by M (g.met.C.Constellation.lawful b.c) (view t) W xs xs (Err p.0) e refl)

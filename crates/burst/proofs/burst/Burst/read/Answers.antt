@@ -19,10 +19,10 @@ returns-in_err-may_read g c =
     let W : Whole (view t) = record { few = t.few; whole = t.whole; wide = t.wide } in
     let i = c.args.symbol in
     let k = c.args.position in
-    let p = err_from_is_err_and c.from-residual.result c.from-residual.ensures.1 in
+    let p = err_from_is_err_and c.from_residual.result c.from_residual.ensures.1 in
     let e : Err p.0 ≡ verdict (outlined M.m (view t)) (read i k) =
     ap (λ x. Err x) p.2 ∙ c.in_err-may_read.ensures ∙ ap (λ n. verdict (outlined n (view t)) (read i k)) (ap (λ N. N.m) c.of-chart.ensures.meaning) in
-    read_by M (g.met.C.Constellation.lawful b.c) (view t) W i k c.from-residual.result (Err p.0) e p.1
+    read_by M (g.met.C.Constellation.lawful b.c) (view t) W i k c.from_residual.result (Err p.0) e p.1
 
 pub returns : goal.returns
 returns g c =

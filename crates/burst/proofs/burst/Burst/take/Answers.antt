@@ -17,7 +17,7 @@ returns-in_err-may_take g c =
     let M = g.C.Constellation.meaning b.c in
     let W : Whole (view t) = record { few = t.few; whole = t.whole; wide = t.wide } in
     let xs : List ℤ = c.args.sheet.now in
-    let p = err_from_is_err_and c.from-residual.result c.from-residual.ensures.1 in
+    let p = err_from_is_err_and c.from_residual.result c.from_residual.ensures.1 in
     let e : Err p.0 ≡ verdict (outlined M.m (view t)) (taking (length xs)) =
     ap (λ x. Err x) p.2 ∙ c.in_err-may_take.ensures ∙ ap (λ k. verdict (outlined k (view t)) (taking (length xs))) (ap (λ N. N.m) c.of-chart.ensures.meaning) in
     record {
