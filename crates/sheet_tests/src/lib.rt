@@ -44,9 +44,9 @@ mod tests {
         sheet.page(&mut bytes)?;
         assert!(rt; bytes == [0, 1, 0, 2, 0, 3, 255, 252, 128, 0, 31, 255]);
         sheet.wipe()?;
-        assert!(rt; sheet.cells() == [0, 0, 0, 0, 0, 0]);
+        assert!(rt; sheet.cells() == [0, 0, 0, 0, 0, 0].as_slice());
         sheet.deinterleave(&out)?;
-        assert!(rt; sheet.cells() == [1, 2, 3, -4, -32768, 8191]);
+        assert!(rt; sheet.cells() == [1, 2, 3, -4, -32768, 8191].as_slice());
         Ok(())
     }
 
@@ -61,7 +61,7 @@ mod tests {
         assert!(rt; out == [1, 0, 1, 1, 0, 0]);
         sheet.wipe()?;
         back_and_there(&mut sheet, &mut out)?;
-        assert!(rt; sheet.cells() == [1, 1, 0, 0, 1, 0]);
+        assert!(rt; sheet.cells() == [1, 1, 0, 0, 1, 0].as_slice());
         Ok(())
     }
 
