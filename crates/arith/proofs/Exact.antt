@@ -1,8 +1,8 @@
 -- A machine's signed number t that is the number z, of size n at most: a proof goes as the expression does.
-use Rattle.std.proofs.Common.{◌≡◌, ℕ, zero, suc, ◌+◌, ◌*◌, ◌^◌, ◌<◌, ◌≤◌, T, ltb, leb, ℤ, pos, negsuc, ◌+ℤ◌, ◌-ℤ◌, ◌*ℤ◌, neg_ℤ, nat_abs, sym, refl, ap, ◌∙◌, subst, ap₂, div-le_self, arith, lit<, lit≤, w16, w32, w64, SFits, to_z, of_z}
+use Rattle.std.proofs.Common.{◌≡◌, ℕ, ◌+◌, ◌*◌, ◌^◌, ◌<◌, ◌≤◌, T, ltb, leb, ℤ, pos, negsuc, ◌+ℤ◌, ◌-ℤ◌, ◌*ℤ◌, neg_ℤ, nat_abs, sym, refl, ap, ◌∙◌, subst, ap₂, div-le_self, arith, lit<, lit≤, SFits, to_z, of_z}
 use lib.Signed.{shr_z}
 use mir.Syntax.{Width}
-use mir.Val.{hbits, bits}
+use mir.Val.{hbits}
 use Rattle.std.proofs.lemmas.Int.{ints, clamps, to_z-of_z, to_z_pos}
 use Rattle.std.specs.Int.{int_max}
 use Rattle.arith.proofs.Within.{abs_neg, times-within, plus-within, minus-within, fits_within}

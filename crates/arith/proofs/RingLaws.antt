@@ -1,6 +1,6 @@
 -- The normal form has the value of its expression, so two expressions whose difference vanishes are equal at all values.
-use Rattle.std.proofs.Common.{◌≡◌, ℕ, zero, suc, Bool, true, false, cond, T, eqb, leb, List, [], ◌∷◌, get_or, ℤ, pos, negsuc, ◌+ℤ◌, ◌-ℤ◌, ◌*ℤ◌, neg_ℤ, sym, refl, ap, ◌∙◌, subst, ap₂, arith, eqb→eq}
-use lib.IntN.{*ℤ_comm, zero-*ℤ, *ℤ-zero, +ℤ_idr}
+use Rattle.std.proofs.Common.{◌≡◌, ℕ, Bool, true, false, cond, T, eqb, leb, List, [], ◌∷◌, get_or, ℤ, pos, negsuc, ◌+ℤ◌, ◌-ℤ◌, ◌*ℤ◌, neg_ℤ, sym, refl, ap, ◌∙◌, subst, ap₂, arith, eqb→eq}
+use lib.IntN.{*ℤ_comm, zero-*ℤ, *ℤ-zero}
 use borrow.Author.Differences.{ints}
 use Rattle.arith.specs.Ring.{Poly, var, con, ◌:+◌, ◌:-◌, ◌:*◌, neg, value, Term, term, insert, join, same_vars, add_term, sum_of, times_term, product_of, negated, normal, is_zero, vanishes, same}
 use Rattle.arith.proofs.IntLaws.{*ℤ-assoc, *ℤ-+ℤ, +ℤ-*ℤ, negℤ-*ℤ}

@@ -1,5 +1,5 @@
 -- Values from what a burst keeps are those of the vectors that it stands for.
-use Rattle.std.proofs.Common.{◌≡◌, ℕ, ◌+◌, ◌-◌, ◌*◌, ◌<◌, ◌≤◌, leb, List, length, get_or, take, drop, ℤ, pos, Ok, Err, Result, sym, refl, ap, ◌∙◌, subst, arith}
+use Rattle.std.proofs.Common.{◌≡◌, ℕ, ◌-◌, ◌*◌, ◌≤◌, leb, List, length, get_or, take, drop, ℤ, pos, Ok, Err, Result, sym, refl, ap, ◌∙◌, subst, arith}
 use Rattle.std.proofs.lemmas.Bool.{and_parts, leb-true}
 use Rattle.refusal.specs.declared.Refusal.{Refusal}
 use Rattle.constellation.specs.Meaning.{Meaning, Lawful}
@@ -7,8 +7,8 @@ use Rattle.metric.specs.Exhaustive.{Symbol}
 use Rattle.metric.specs.Value.{extrinsic_value}
 use Rattle.observation.specs.Observed.{held}
 use Rattle.protocol.specs.Verdicts.{Verdict, up_to}
-use Rattle.protocol.specs.Calls.{State, Call, taking, read, decide, outline, verdict, leaves, sheet_of, looked, reading, bits_of}
-use Rattle.protocol.specs.Stands.{image, Stands, erased_record}
+use Rattle.protocol.specs.Calls.{State, taking, read, decide, outline, verdict, leaves, sheet_of, looked, reading, bits_of}
+use Rattle.protocol.specs.Stands.{Stands, erased_record}
 use Rattle.protocol.proofs.Fronts.{passed}
 use Rattle.protocol.proofs.Images.{outline-image, sheet-image, bits-image, reading-image}
 use Rattle.detect.specs.Kept.{kept_value}

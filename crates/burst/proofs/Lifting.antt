@@ -1,21 +1,19 @@
 -- From what a table or a draft is left as to what the burst is left as, and to what it then stands for.
-use Rattle.std.proofs.Common.{◌≡◌, ℕ, zero, suc, ◌+◌, ◌-◌, ◌*◌, ◌<◌, ◌≤◌, Bool, true, false, cond, not, ◌&&◌, eqb, ltb, leb, List, [], ◌∷◌, ◌++◌, map, length, get_or, take, drop, set, replicate, ℤ, pos, Ok, Err, Result, sym, refl, ap, ◌∙◌, subst, ap₂, mul-le-mul, arith}
+use Rattle.std.proofs.Common.{◌≡◌, ℕ, ◌+◌, ◌-◌, ◌*◌, ◌<◌, ◌≤◌, false, not, eqb, leb, List, map, length, take, drop, replicate, ℤ, pos, Ok, Err, Result, sym, refl, ap, ◌∙◌, subst, mul-le-mul, arith}
 use Rattle.std.proofs.lemmas.List.{length-take-le}
 use Rattle.std.proofs.lemmas.Bool.{and_parts, leb-true, eqb-true}
-use Rattle.refusal.specs.declared.Cause.{Cause}
 use Rattle.refusal.specs.declared.Refusal.{Refusal}
 use Rattle.constellation.specs.Meaning.{Meaning}
-use Rattle.metric.specs.Exhaustive.{Symbol}
 use Rattle.observation.specs.declared.Record.{Record}
 use Rattle.observation.specs.Observed.{held, symbol_of}
-use Rattle.protocol.specs.Verdicts.{Verdict, accepted, need, each, inside, up_to}
-use Rattle.protocol.specs.Placings.{OpenState, Placing, place_verdict, place_after}
-use Rattle.protocol.specs.Calls.{Placed, State, Outline, Call, tell, taking, answer, withdraw, erase, read, outline, verdict, closed, leaves}
-use Rattle.protocol.specs.Stands.{open_image, image, StandsOpen, Stands, recorded, erased_symbol, erased_record}
+use Rattle.protocol.specs.Verdicts.{Verdict, up_to}
+use Rattle.protocol.specs.Placings.{Placing, place_verdict, place_after}
+use Rattle.protocol.specs.Calls.{Call, tell, answer, withdraw, erase, outline, verdict, closed, leaves}
+use Rattle.protocol.specs.Stands.{recorded, erased_symbol, erased_record}
 use Rattle.protocol.proofs.Fronts.{passed}
 use Rattle.protocol.proofs.Images.{place-image, closed-image, outline-image, leaves-image}
 use Rattle.draft.specs.Drafted as drafted
-use Rattle.table.specs.Kept.{View, kept, outlined, paired, blank, over, fresh, tell_left, answer_left, withdraw_left, erase_left, issued, returned}
+use Rattle.table.specs.Kept.{View, kept, outlined, fresh, tell_left, answer_left, withdraw_left, erase_left, returned}
 use Rattle.table.specs.declared.turn.Turn.{Turn}
 use Rattle.table.proofs.Pairs.{length-paired, paired-told, paired_all, paired-set, paired-fresh}
 use Rattle.burst.specs.Public.{PlacedBy, ClosedBy, Called, Answered}

@@ -17,7 +17,6 @@ use Rattle.table.specs.Kept as tabled
 use Rattle.table.specs.declared.table.Table.{Table}
 use Rattle.table.specs.declared.turn.Turn.{Turn}
 use Rattle.burst.specs.declared.burst.OpenBurst.{OpenBurst}
-use Rattle.burst.specs.declared.burst.Burst.{Burst}
 
 -- what an open burst over M keeps
 abbrev pub open_kept : Meaning → Draft → OpenState Record

@@ -1,5 +1,5 @@
 -- The sections as the code cuts them: `rest` of a slice pattern is `take (length bs - k) (drop k bs)`.
-use Rattle.std.proofs.Common.{◌≡◌, ℕ, ◌+◌, ◌-◌, ◌*◌, ◌<◌, ◌≤◌, true, cond, eqb, leb, List, [], ◌∷◌, length, get_or, take, drop, None, Ok, Option, sym, refl, ap, ◌∙◌, arith, rules}
+use Rattle.std.proofs.Common.{◌≡◌, ℕ, ◌+◌, ◌-◌, ◌*◌, ◌≤◌, true, eqb, List, [], ◌∷◌, length, get_or, take, drop, None, Ok, Option, ap, ◌∙◌, arith}
 use Rattle.std.proofs.lemmas.List.{take_rest}
 use Rattle.std.proofs.lemmas.Bool.{le-leb, eqb-true}
 use Rattle.burstfile.specs.Reading.{Layout, cut, cut_antennas, cut_vectors, cut_priors, records_size, unless_broken, broken_settings, broken_antennas, broken_priors, priors_allowed}

@@ -1,12 +1,12 @@
 -- The theorem on the sections.
-use Rattle.std.proofs.Common.{◌≡◌, ℕ, zero, suc, ◌+◌, ◌-◌, ◌*◌, ◌/◌, ◌%◌, ◌<◌, ◌≤◌, Bool, true, false, cond, eqb, leb, ◌⊎◌, List, [], ◌∷◌, ◌++◌, length, get_or, take, drop, ℤ, IfOk as made, None, Ok, Err, Result, sym, refl, ap, ◌∙◌, subst, inl, inr, arith, w16, SFits, rules, MatchResult}
-use Rattle.std.proofs.lemmas.List.{take-append-drop, length-append, length-take-le, length-drop, take_at, drop_at}
+use Rattle.std.proofs.Common.{◌≡◌, ℕ, ◌+◌, ◌*◌, ◌<◌, ◌≤◌, true, eqb, leb, ◌⊎◌, List, [], ◌∷◌, ◌++◌, length, take, drop, IfOk as made, None, Ok, Err, Result, sym, refl, ap, ◌∙◌, subst, inl, inr, arith, w16, SFits, MatchResult}
+use Rattle.std.proofs.lemmas.List.{take-append-drop, length-append, length-take-le, take_at, drop_at}
 use Rattle.std.proofs.ByRecursion.{All-take, All-drop}
-use Rattle.std.proofs.lemmas.Bool.{le-leb, eq-eqb, leb-true, eqb-true, eqb-false, cases_Bool}
+use Rattle.std.proofs.lemmas.Bool.{le-leb, eq-eqb, leb-true, eqb-true, cases_Bool}
 use Rattle.std.specs.List.{flat_map, AllByRecursion as All}
 use Rattle.refusal.specs.declared.Refusal.{Refusal}
-use Rattle.burstfile.specs.Format.{Pair, Vector, Contents, word, signed, pair, vector, encode, PairShape, VectorShape, Shape, vector_size, channel_of, symbols_of, bits_of}
-use Rattle.burstfile.specs.Reading.{Layout, Whole, laid, cut, cut_settings, cut_antennas, cut_vectors, cut_priors, broken_settings, broken_antennas, broken_priors, priors_allowed, records_size, cut_at, signed_of, pairs_of, vector_of, vectors_of, signeds_of, contents_of}
+use Rattle.burstfile.specs.Format.{Contents, word, signed, vector, encode, VectorShape, Shape, vector_size, channel_of, symbols_of, bits_of}
+use Rattle.burstfile.specs.Reading.{Layout, Whole, laid, cut, cut_antennas, cut_vectors, cut_priors, broken_settings, broken_antennas, broken_priors, priors_allowed, records_size, cut_at, vectors_of, signeds_of, contents_of}
 use Rattle.burstfile.specs.Theorem.{Bytes, Shaped, CutIsEncoded, EncodedIsCut}
 use Rattle.burstfile.specs.declared.view.File.{File}
 use Rattle.burstfile.proofs.Options.{cond_none, refused, passed, ok_same, unbroken}

@@ -1,5 +1,5 @@
 -- Answers with the number of a record, and the walk over the records, for a reader that places them one by one.
-use Rattle.std.proofs.Common.{◌≡◌, ℕ, ◌+◌, ◌<◌, ◌≤◌, List, [], ◌∷◌, length, get_or, drop, Some, None, Ok, Err, Option, Result, sym, ap, add-one, arith, drop-cons, MatchResult}
+use Rattle.std.proofs.Common.{◌≡◌, ℕ, ◌+◌, ◌<◌, ◌≤◌, List, length, get_or, drop, Some, None, Ok, Err, Result, sym, ap, add-one, arith, drop-cons}
 use Rattle.std.proofs.lemmas.List.{drop_all}
 use Rattle.refusal.specs.declared.Refusal.{Refusal}
 use Rattle.burstfile.specs.declared.refused.FileRefusal.{FileRefusal}

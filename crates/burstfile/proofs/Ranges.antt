@@ -1,14 +1,14 @@
 -- No value breaks its rule exactly where the contents are in range.
-use Rattle.std.proofs.Common.{◌≡◌, ℕ, zero, suc, ◌+◌, ◌-◌, ◌*◌, ◌<◌, ◌≤◌, Bool, true, false, cond, leb, ◌⊎◌, List, [], ◌∷◌, length, ℤ, nat_abs, Some, None, Ok, Err, Option, Result, sym, refl, ap, ◌∙◌, subst, inl, inr, arith}
-use Rattle.std.proofs.lemmas.Bool.{le-leb, lt-leb, leb-true, cases_Bool, leb-false}
+use Rattle.std.proofs.Common.{◌≡◌, ℕ, ◌+◌, ◌≤◌, leb, List, [], ◌∷◌, length, ℤ, nat_abs, Some, None, Ok, Err, Option, Result, refl, ap, ◌∙◌, subst, inl, inr, arith}
+use Rattle.std.proofs.lemmas.Bool.{le-leb, leb-true, cases_Bool}
 use Rattle.std.specs.List.{AllByRecursion as All}
 use Rattle.refusal.specs.declared.Refusal.{Refusal}
 use Rattle.burstfile.specs.declared.refused.FileRefusal.{FileRefusal}
 use Rattle.burstfile.specs.Refused.{in_record}
-use Rattle.burstfile.specs.Format.{Pair, Vector, Contents, Shape, PairInRange, VectorInRange, InRange, Rules, encode, symbols_of}
+use Rattle.burstfile.specs.Format.{Pair, Vector, Contents, PairInRange, VectorInRange, InRange, Rules, encode, symbols_of}
 use Rattle.burstfile.specs.Reading.{Layout, cut, contents_of}
-use Rattle.burstfile.specs.Values.{or_else, within, fault_at, numbered_fault, pairs_fault, limit_of, vector_fault, vectors_fault, priors_fault, values_fault, judged, judged_cut, read_spec}
-use Rattle.burstfile.specs.Theorem.{Bytes, Written, AcceptsEncodings}
+use Rattle.burstfile.specs.Values.{within, numbered_fault, pairs_fault, limit_of, vector_fault, vectors_fault, priors_fault, values_fault, judged, judged_cut, read_spec}
+use Rattle.burstfile.specs.Theorem.{Bytes, AcceptsEncodings}
 use Rattle.burstfile.proofs.Options.{some_none, or_none, cond_none}
 use Rattle.burstfile.proofs.Format.{cut_is_encoded, encoded_is_cut}
 

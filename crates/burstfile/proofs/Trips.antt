@@ -1,12 +1,12 @@
 -- What is decoded is encoded as it was, and what is encoded is decoded as it was.
-use Rattle.std.proofs.Common.{◌≡◌, ℕ, zero, suc, ◌+◌, ◌-◌, ◌*◌, ◌/◌, ◌%◌, ◌<◌, ◌≤◌, true, cond, eqb, leb, ◌⊎◌, List, [], ◌∷◌, ◌++◌, length, get_or, take, drop, ℤ, sym, refl, ap, ◌∙◌, inl, inr, suc-mul, div-add-mod', arith, Fits-lit, w16, SFits, to_z, of_z, rules}
+use Rattle.std.proofs.Common.{◌≡◌, ℕ, zero, suc, ◌+◌, ◌-◌, ◌*◌, ◌/◌, ◌%◌, ◌<◌, List, [], ◌∷◌, ◌++◌, length, take, drop, ℤ, refl, ap, ◌∙◌, suc-mul, div-add-mod', arith, w16, SFits, of_z, rules}
 use lib.Arith.{digits_div, digits_mod}
 use mir.ValLaws.{to_z-Fits}
 use Rattle.std.proofs.lemmas.List.{take-append-drop, length-append, length-take-le, length-drop, take_at, drop_at}
 use Rattle.std.proofs.ByRecursion.{All-take, All-drop}
 use Rattle.std.proofs.lemmas.Int.{to_z-of_z, of_z-to_z}
 use Rattle.std.specs.List.{flat_map, AllByRecursion as All}
-use Rattle.burstfile.specs.Format.{Pair, Vector, Contents, word, signed, pair, vector, PairShape, VectorShape}
+use Rattle.burstfile.specs.Format.{Pair, Vector, word, signed, pair, vector, PairShape, VectorShape}
 use Rattle.burstfile.specs.Reading.{signed_of, pairs_of, vector_of, vectors_of, signeds_of}
 
 abbrev pub Byte : ℕ → Type 0

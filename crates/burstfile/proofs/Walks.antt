@@ -1,5 +1,5 @@
 -- Entry by entry: where in the bytes a number, a pair or a record stands, and the walk over the a priori values.
-use Rattle.std.proofs.Common.{◌≡◌, ℕ, zero, suc, ◌+◌, ◌-◌, ◌*◌, ◌/◌, ◌<◌, ◌≤◌, true, cond, leb, List, [], ◌∷◌, length, get_or, take, drop, ℤ, pos, nat_abs, Some, None, sym, refl, ap, ◌∙◌, add-zero, mul-le-mul_right, suc-mul, add_comm, zero-mul, arith}
+use Rattle.std.proofs.Common.{◌≡◌, ℕ, zero, suc, ◌+◌, ◌-◌, ◌*◌, ◌/◌, ◌<◌, ◌≤◌, List, [], ◌∷◌, length, get_or, take, drop, ℤ, pos, nat_abs, Some, None, refl, ◌∙◌, add-zero, mul-le-mul_right, suc-mul, add_comm, zero-mul, arith}
 use Rattle.std.proofs.lemmas.List.{drop-drop}
 use Rattle.std.proofs.lemmas.Bool.{le-leb, lt-leb}
 use Rattle.refusal.specs.declared.Cause.TheVariants.{Range}

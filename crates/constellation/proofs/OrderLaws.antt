@@ -1,12 +1,12 @@
 -- Another order of the bits keeps the laws.
-use Rattle.std.proofs.Common.{◌≡◌, ℕ, ◌+◌, ◌-◌, ◌*◌, ◌^◌, ◌<◌, ◌≤◌, Bool, true, false, cond, leb, List, [], ◌∷◌, map, length, get_or, take, sym, refl, ap, ◌∙◌, subst, arith}
-use Rattle.std.specs.List.{range_with_len, AllByRecursion as All}
+use Rattle.std.proofs.Common.{◌≡◌, ℕ, ◌+◌, ◌-◌, ◌^◌, ◌<◌, ◌≤◌, true, cond, leb, List, map, length, get_or, take, sym, refl, ap, ◌∙◌, subst, arith}
+use Rattle.std.specs.List.{range_with_len}
 use Rattle.std.proofs.lemmas.List.FromFn.{length-map-range_with_len, get_or-map-range_with_len}
 use Rattle.std.proofs.ByRecursion.{All-map, All-weaker}
 use Rattle.std.proofs.lemmas.List.{length-map, get_or-map}
 use Rattle.std.proofs.lemmas.Bool.{cond_both, cond-true, and_parts, leb-true, eqb-true}
 use Rattle.constellation.specs.Meaning.{Meaning, Lawful, Good, Carried, bit, origin, place, nth}
-use Rattle.constellation.specs.Ordered.{reorder, position, whole, fresh, permutes, relabel, shuffled, ordered}
+use Rattle.constellation.specs.Ordered.{reorder, position, fresh, permutes, relabel, shuffled, ordered}
 use Rattle.constellation.specs.declared.Point.{Point}
 use Rattle.constellation.proofs.Reorder.{bit-reorder, reorder-small, same_bits, position_least, at_position}
 use Rattle.constellation.proofs.Tested.{every_from}

@@ -1,8 +1,8 @@
 -- The bits of a label, one by one, and of a label in another order.
-use Rattle.std.proofs.Common.{◌≡◌, ℕ, zero, suc, ◌+◌, ◌-◌, ◌*◌, ◌/◌, ◌%◌, ◌^◌, ◌<◌, ◌≤◌, Bool, true, false, cond, eqb, ◌⊎◌, List, [], ◌∷◌, ◌++◌, length, get_or, sym, refl, ap, ◌∙◌, subst, inl, inr, not-suc-le-zero, mul_assoc, add-mul, arith}
+use Rattle.std.proofs.Common.{◌≡◌, ℕ, zero, suc, ◌+◌, ◌-◌, ◌*◌, ◌/◌, ◌%◌, ◌^◌, ◌<◌, ◌≤◌, eqb, List, [], ◌∷◌, ◌++◌, length, get_or, sym, ap, ◌∙◌, subst, not-suc-le-zero, mul_assoc, arith}
 use lib.Pow.{mod-mod-pow}
 use lib.Arith.{digits_lt}
-use Rattle.std.proofs.lemmas.Nat.{pow_pos, pow-add, field_of, shr_high, mod_low, shr_split, mod_below, shr_below, div-add-mod'}
+use Rattle.std.proofs.lemmas.Nat.{pow-add, field_of, shr_high, mod_low, mod_below, shr_below}
 use Rattle.std.proofs.lemmas.List.{length_push}
 use Rattle.std.proofs.lemmas.Bool.{cond_both, eqb-true}
 use Rattle.constellation.specs.Meaning.{bit}

@@ -1,9 +1,9 @@
 -- A bit that is 0 is set by adding its weight; the other bits stay.
-use Rattle.std.proofs.Common.{◌≡◌, ℕ, ◌+◌, ◌-◌, ◌*◌, ◌/◌, ◌%◌, ◌^◌, ◌<◌, ◌≤◌, ◌⊎◌, sym, ap, ◌∙◌, subst, inl, inr, add-mul, one-mul, arith}
+use Rattle.std.proofs.Common.{◌≡◌, ℕ, ◌+◌, ◌-◌, ◌*◌, ◌/◌, ◌%◌, ◌^◌, ◌<◌, sym, ap, ◌∙◌, subst, inl, inr, add-mul, one-mul, arith}
 use lib.Arith.{digits_lt}
 use Rattle.std.proofs.lemmas.Nat.{pow_pos, pow-add, shr_below, shr_split, shr-shr, shr_high, mod_low, mod_below}
 use Rattle.std.proofs.lemmas.Bool.{cases_lt}
-use Rattle.constellation.proofs.Reorder.{low_bit, pow_suc}
+use Rattle.constellation.proofs.Reorder.{low_bit}
 
 module _ (x d : ℕ) (zero_bit : x / 2 ^ d % 2 ≡ 0) where
   up : x + 2 ^ d ≡ (x / 2 ^ d + 1) * 2 ^ d + x % 2 ^ d

@@ -1,5 +1,5 @@
 -- What a constellation means: the number of bits of a label, the positions of the two sign bits, and the points of the first quadrant.
-use Rattle.std.specs.Prelude.{◌≡◌, ℕ, ◌+◌, ◌-◌, ◌*◌, ◌/◌, ◌%◌, ◌^◌, ◌<◌, ◌≤◌, min, List, length, get_or, slice_index_or}
+use Rattle.std.specs.Prelude.{◌≡◌, ℕ, ◌-◌, ◌/◌, ◌%◌, ◌^◌, ◌<◌, ◌≤◌, min, List, length, get_or, slice_index_or}
 use Rattle.std.specs.List.{AllByRecursion as All}
 use Rattle.constellation.specs.declared.Point.{Point}
 

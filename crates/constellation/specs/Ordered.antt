@@ -1,5 +1,5 @@
 -- A constellation whose labels have their bits in another order. A bit order lists, for each new position, the old position whose bit it carries.
-use Rattle.std.specs.Prelude.{ℕ, zero, suc, ◌+◌, ◌*◌, ◌^◌, Bool, true, false, cond, ◌&&◌, leb, List, [], ◌∷◌, map, length, take, ◌==◌, nat_le, slice_index}
+use Rattle.std.specs.Prelude.{ℕ, zero, suc, ◌+◌, ◌*◌, ◌^◌, Bool, true, cond, ◌&&◌, leb, List, [], ◌∷◌, map, length, take, ◌==◌, nat_le, slice_index}
 use Rattle.constellation.specs.Meaning.{Meaning, bit}
 use Rattle.constellation.specs.declared.Point.{Point}
 

@@ -2,7 +2,7 @@
 use Rattle.std.proofs.Common.{◌≡◌, ℕ, ◌+◌, ◌*◌, ◌<◌, ◌≤◌, List, [], ◌∷◌, ◌++◌, length, get_or, take, ℤ, ◌+ℤ◌, nat_abs, sym, refl, ap, ◌∙◌, ap₂, mul-le-mul, arith, length-take}
 use Rattle.std.proofs.lemmas.Int.{ints}
 use Rattle.std.proofs.lemmas.List.{take_more}
-use Rattle.arith.proofs.Exact.{Is, given, times, plus, minus, negated}
+use Rattle.arith.proofs.Exact.{given, times, plus, minus, negated}
 use Rattle.metric.specs.Exhaustive.{Antenna}
 use Rattle.observation.specs.declared.Sample.{Sample}
 use Rattle.observation.specs.declared.Record.{Record}

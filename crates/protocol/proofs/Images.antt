@@ -1,5 +1,5 @@
 -- What is kept of the symbols answers as the symbols do: every call commutes with taking what is kept.
-use Rattle.std.proofs.Common.{◌≡◌, ℕ, zero, suc, ◌+◌, ◌-◌, ◌<◌, ◌≤◌, Bool, true, false, cond, List, [], ◌∷◌, ◌++◌, map, length, get_or, take, drop, replicate, ℤ, pos, ◌+ℤ◌, Some, None, Ok, Err, Option, sym, refl, ap, ◌∙◌, ap₂, arith}
+use Rattle.std.proofs.Common.{◌≡◌, ℕ, zero, suc, ◌+◌, ◌-◌, ◌<◌, ◌≤◌, false, cond, List, [], ◌∷◌, ◌++◌, map, get_or, take, drop, replicate, ℤ, pos, ◌+ℤ◌, Some, None, Ok, Err, Option, sym, refl, ap, ap₂, arith}
 use lib.Signed.{lt_z}
 use Rattle.std.specs.List.{range_with_len, flat_map}
 use Rattle.std.proofs.lemmas.List.{length-map}
@@ -7,7 +7,7 @@ use Rattle.constellation.specs.Meaning.{Meaning}
 use Rattle.observation.specs.declared.Sample.{Sample}
 use Rattle.protocol.specs.Verdicts.{Verdict}
 use Rattle.protocol.specs.Placings.{OpenState, Placing, coherent, differential, placed_symbols, placed_reference, place_after}
-use Rattle.protocol.specs.Calls.{Placed, State, Call, tell, taking, answer, withdraw, erase, read, decide, Outline, outline, at_symbol, of_symbol, closed, with_symbols, told, spread, after, leaves, extrinsics, sheet_of, looked, reading, decided, bits_of}
+use Rattle.protocol.specs.Calls.{Placed, State, Call, tell, taking, answer, withdraw, erase, read, decide, outline, at_symbol, of_symbol, closed, with_symbols, told, spread, after, leaves, extrinsics, sheet_of, looked, reading, decided, bits_of}
 use Rattle.protocol.specs.Stands.{open_image, placed_image, image}
 
 module _ {X Y : Type 0} (f : X → Y) where

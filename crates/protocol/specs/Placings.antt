@@ -1,5 +1,5 @@
 -- A burst while symbols are placed. X is whatever is kept of a symbol.
-use Rattle.std.specs.Prelude.{ℕ, ◌+◌, Bool, true, false, cond, ◌&&◌, List, [], ◌∷◌, ◌++◌, length, ℤ, pos, negsuc, Some, None, Ok, Err, Option, ◌==◌, int_le, nat_le, nat_lt}
+use Rattle.std.specs.Prelude.{ℕ, Bool, true, ◌&&◌, List, [], ◌∷◌, ◌++◌, length, ℤ, pos, negsuc, Some, None, Ok, Err, Option, ◌==◌, int_le, nat_le, nat_lt}
 use Rattle.refusal.specs.declared.Cause.TheVariants.{Antennas, Sample as BadSample, Weight, Full, Shift}
 use Rattle.constellation.specs.Meaning.{Meaning}
 use Rattle.observation.specs.declared.Sample.{Sample}

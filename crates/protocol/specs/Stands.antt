@@ -1,6 +1,6 @@
 -- What a burst keeps, and the vectors that it stands for. A burst keeps a record of each symbol and not its vectors;
 -- it stands for every state whose symbols have those records.
-use Rattle.std.specs.Prelude.{◌≡◌, ℕ, List, map, ℤ}
+use Rattle.std.specs.Prelude.{◌≡◌, ℕ, List, map}
 use Rattle.metric.specs.Exhaustive.{Symbol}
 use Rattle.observation.specs.declared.Record.{Record}
 use Rattle.observation.specs.declared.Sample.{Sample}

@@ -1,5 +1,5 @@
 -- What decides whether a call is accepted.
-use Rattle.std.specs.Prelude.{ℕ, ◌+◌, Bool, true, false, cond, ◌&&◌, List, length, ℤ, pos, negsuc, Ok, Err, Result, ◌==◌, int_le, nat_le}
+use Rattle.std.specs.Prelude.{ℕ, ◌+◌, Bool, cond, ◌&&◌, List, length, ℤ, pos, negsuc, Ok, Err, Result, ◌==◌, int_le, nat_le}
 use Rattle.std.specs.List.{prefix_len}
 use Rattle.refusal.specs.declared.Cause.{Cause}
 use Rattle.refusal.specs.declared.Refusal.{Refusal}

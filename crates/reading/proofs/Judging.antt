@@ -1,18 +1,17 @@
 -- What a placing is refused for is what the file's rules say of the record.
-use Rattle.std.proofs.Common.{◌≡◌, ℕ, zero, suc, ◌+◌, ◌-◌, ◌<◌, ◌≤◌, Bool, true, false, cond, ◌&&◌, eqb, ltb, leb, List, [], ◌∷◌, ◌++◌, map, length, ℤ, pos, negsuc, nat_abs, Some, None, Ok, Err, Option, Result, sym, refl, ap, ◌∙◌, inl, inr, zero-add, arith}
+use Rattle.std.proofs.Common.{◌≡◌, ℕ, suc, ◌+◌, ◌-◌, ◌≤◌, Bool, true, false, cond, ◌&&◌, eqb, ltb, leb, List, [], ◌∷◌, length, ℤ, Some, None, Ok, Err, Option, Result, refl, ap, ◌∙◌, zero-add, arith}
 use lib.Dec.{eqb-zero-suc}
-use lib.Signed.{le_z}
 use Rattle.std.specs.List.{prefix_len}
 use Rattle.std.proofs.lemmas.List.{length-map}
 use Rattle.std.proofs.lemmas.Int.{ints}
 use Rattle.std.proofs.lemmas.Bool.Decides.{nat_tests}
-use Rattle.refusal.specs.declared.Cause.TheVariants.{Antennas, Sample as BadSample, Weight, Full}
+use Rattle.refusal.specs.declared.Cause.TheVariants.{Sample as BadSample, Weight, Full}
 use Rattle.refusal.specs.declared.Refusal.{Refusal}
 use Rattle.observation.specs.declared.Sample.{Sample}
-use Rattle.protocol.specs.Verdicts.{Verdict, accepted, need, each, up_to, inside}
-use Rattle.protocol.specs.Placings.{Placing, coherent, differential, part, fine, beside, room, place_verdict}
+use Rattle.protocol.specs.Verdicts.{Verdict, accepted, need, up_to, inside}
+use Rattle.protocol.specs.Placings.{Placing, coherent, differential, part, fine, place_verdict}
 use Rattle.burstfile.specs.Format.{Pair, Vector, VectorShape, channel_of, symbols_of}
-use Rattle.burstfile.specs.Values.{or_else, fault_at, within, pairs_fault, limit_of, vector_fault}
+use Rattle.burstfile.specs.Values.{or_else, fault_at, within, pairs_fault, vector_fault}
 use Rattle.reading.specs.Held.{sample_of, samples_of, placing_of}
 
 -- accepted where there is no fault

@@ -1,5 +1,5 @@
 -- The ten modes.
-use Rattle.std.proofs.Common.{◌≡◌, ℕ, zero, suc, ◌≤◌, List, [], ◌∷◌, Some, None, Option, refl, arith}
+use Rattle.std.proofs.Common.{◌≡◌, ℕ, zero, suc, ◌≤◌, Some, None, Option, refl, arith}
 use Rattle.constellation.specs.Meaning.{Meaning}
 use Rattle.catalogue.specs.Modes.{mode_meaning, catalogue_meaning, Offered}
 use Rattle.catalogue.specs.declared.Catalogue.{Catalogue}

@@ -1,10 +1,9 @@
 -- A closed burst of a file is ready to be told the file's values.
-use Rattle.std.proofs.Common.{◌≡◌, ℕ, ◌+◌, ◌*◌, ◌<◌, ◌≤◌, true, false, ltb, ◌⊎◌, List, map, length, Some, None, Ok, Err, Option, Result, sym, refl, ap, ◌∙◌, inl, inr, arith}
+use Rattle.std.proofs.Common.{◌≡◌, ℕ, ◌+◌, ◌*◌, ◌<◌, ◌≤◌, true, false, ltb, List, length, Some, None, Ok, Err, Result, refl, ap, ◌∙◌, inl, inr, arith}
 use Rattle.std.proofs.lemmas.Bool.{eq-eqb, lt-ltb}
 use Rattle.std.proofs.lemmas.List.{length-map}
 use Rattle.metric.specs.Exhaustive.{Symbol}
 use Rattle.observation.specs.declared.Record.{Record}
-use Rattle.refusal.specs.declared.Refusal.{Refusal}
 use Rattle.protocol.specs.Verdicts.{accepted}
 use Rattle.protocol.specs.Placings.{OpenState, opened}
 use Rattle.protocol.specs.Calls.{State, closed, verdict, outline, taking, withdraw, after}
@@ -12,7 +11,7 @@ use Rattle.protocol.specs.Stands.{Stands, erased_record}
 use Rattle.burstfile.specs.declared.refused.FileRefusal.{FileRefusal}
 use Rattle.burstfile.specs.Format.{Contents, Shape, symbols_of, bits_of}
 use Rattle.burstfile.specs.Reading.{Layout, cut, contents_of}
-use Rattle.burstfile.specs.Values.{values_fault, judged, judged_cut, read_spec}
+use Rattle.burstfile.specs.Values.{values_fault, read_spec}
 use Rattle.burstfile.proofs.Ranges.{values_good}
 use Rattle.catalogue.specs.Modes.{mode_meaning}
 use Rattle.reading.specs.Held.{Holds, file_state, placed_all, offered}

@@ -1,5 +1,5 @@
 -- A burst that was read gives out its sheet, and takes the turn back.
-use Rattle.std.proofs.Common.{◌≡◌, ℕ, ◌+◌, ◌*◌, List, ◌++◌, length, drop, ℤ, Ok, Err, Result, sym, refl, ap, ◌∙◌, subst, ap₂}
+use Rattle.std.proofs.Common.{◌≡◌, ℕ, ◌+◌, ◌*◌, List, ◌++◌, length, drop, ℤ, Ok, Err, Result, ap, ◌∙◌, ap₂}
 use Rattle.std.proofs.lemmas.List.{length-map}
 use Rattle.refusal.specs.declared.Refusal.{Refusal}
 use Rattle.metric.specs.Value.{extrinsic_value}

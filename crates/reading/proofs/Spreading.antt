@@ -1,5 +1,5 @@
 -- Telling symbol after symbol spreads a list of values, m to a symbol.
-use Rattle.std.proofs.Common.{◌≡◌, ℕ, zero, suc, ◌+◌, ◌-◌, ◌*◌, ◌<◌, ◌≤◌, Bool, true, false, cond, not, ◌&&◌, eqb, leb, List, [], ◌∷◌, map, length, take, drop, ℤ, nat_abs, Ok, Err, sym, refl, ap, ◌∙◌, subst, ap₂, suc-mul, add_comm, zero-mul, add-one, arith}
+use Rattle.std.proofs.Common.{◌≡◌, ℕ, zero, suc, ◌+◌, ◌-◌, ◌*◌, ◌<◌, ◌≤◌, true, false, List, [], ◌∷◌, map, length, take, drop, ℤ, nat_abs, Ok, sym, refl, ap, ◌∙◌, ap₂, suc-mul, add_comm, zero-mul, add-one, arith}
 use Rattle.std.specs.List.{prefix_len, AllByRecursion as All}
 use Rattle.std.proofs.lemmas.List.{drop-drop, length-drop, length-take-le}
 use Rattle.std.proofs.lemmas.Bool.{eq-eqb, le-leb}
@@ -8,11 +8,10 @@ use Rattle.metric.specs.Exhaustive.{Symbol}
 use Rattle.observation.specs.declared.Record.{Record}
 use Rattle.observation.specs.Observed.{held}
 use Rattle.protocol.specs.Verdicts.{Verdict, accepted, inside, up_to}
-use Rattle.protocol.specs.Calls.{Placed, State, Outline, Call, tell, verdict, outline, at_symbol, told, spread, with_symbols, leaves}
+use Rattle.protocol.specs.Calls.{Placed, State, Outline, tell, verdict, outline, at_symbol, told, spread, with_symbols, leaves}
 use Rattle.protocol.specs.Stands.{Stands, placed_image, image, erased_record}
 use Rattle.protocol.proofs.Fronts.{front_take, front_drop}
 use Rattle.burst.specs.Public.{Called}
-use Rattle.burstfile.specs.Values.{within}
 use Rattle.burstfile.specs.Reading.{signeds_of}
 use Rattle.reading.specs.Held.{told_all}
 use Rattle.reading.proofs.Judging.{inside-within}

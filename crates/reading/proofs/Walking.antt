@@ -1,5 +1,5 @@
 -- The walk over the records: what is placed so far, and what is left of the file.
-use Rattle.std.proofs.Common.{◌≡◌, ℕ, zero, suc, ◌+◌, ◌-◌, ◌<◌, ◌≤◌, Bool, true, false, cond, leb, List, [], ◌∷◌, ◌++◌, map, length, get_or, drop, Some, None, Ok, Err, Option, sym, refl, ap, ◌∙◌, subst, add-one, arith, length-append, drop-cons}
+use Rattle.std.proofs.Common.{◌≡◌, ℕ, zero, suc, ◌+◌, ◌-◌, ◌<◌, ◌≤◌, Bool, true, false, cond, leb, List, [], ◌∷◌, map, length, get_or, drop, Some, None, Ok, Err, Option, sym, refl, ap, ◌∙◌, subst, add-one, arith, length-append, drop-cons}
 use Rattle.std.specs.List.{AllByRecursion as All}
 use Rattle.std.proofs.lemmas.List.{length-map, drop_all}
 use Rattle.refusal.specs.declared.Refusal.{Refusal}
@@ -10,15 +10,15 @@ use Rattle.observation.specs.declared.Sample.{Sample}
 use Rattle.observation.specs.declared.Record.{Record}
 use Rattle.observation.specs.Observed.{held, symbol_of}
 use Rattle.protocol.specs.Verdicts.{Verdict, accepted, need}
-use Rattle.protocol.specs.Placings.{OpenState, Placing, coherent, differential, opened, open_verdict, place_verdict, place_after, placed_symbols, placed_reference}
+use Rattle.protocol.specs.Placings.{OpenState, opened, place_verdict, place_after, placed_symbols, placed_reference}
 use Rattle.protocol.specs.Stands.{StandsOpen, open_image}
 use Rattle.burst.specs.Public.{PlacedBy}
 use Rattle.burstfile.specs.declared.refused.FileRefusal.{FileRefusal}
 use Rattle.burstfile.specs.Refused.{in_record}
 use Rattle.burstfile.specs.Format.{Vector, VectorShape, Contents, Shape, channel_of, symbols_of}
-use Rattle.burstfile.specs.Values.{fault_at, vector_fault, vectors_fault, values_fault}
+use Rattle.burstfile.specs.Values.{fault_at, vector_fault, vectors_fault}
 use Rattle.burstfile.proofs.Numbered.{record_passed, record_refused, records_passed}
-use Rattle.reading.specs.Held.{samples_of, placing_of, placed_all}
+use Rattle.reading.specs.Held.{placing_of, placed_all}
 use Rattle.reading.proofs.Judging.{RefBy, placing_by, verdict_of, none_of, some_of_lem, place-judged, samples_count}
 
 -- i records of the contents are placed, from o₀ on; k is what the burst keeps

@@ -1,5 +1,5 @@
 -- A layer keeps the laws.
-use Rattle.std.proofs.Common.{◌≡◌, ℕ, zero, suc, ◌+◌, ◌-◌, ◌*◌, ◌/◌, ◌%◌, ◌^◌, ◌<◌, ◌≤◌, Bool, true, false, cond, ◌&&◌, eqb, ltb, List, [], ◌∷◌, ◌++◌, map, length, get_or, sym, refl, ap, ◌∙◌, subst, not-suc-le-zero, suc-mul, mul_comm, mul-pos, mul-suc, arith, pow_mono}
+use Rattle.std.proofs.Common.{◌≡◌, ℕ, zero, suc, ◌+◌, ◌*◌, ◌/◌, ◌%◌, ◌^◌, ◌<◌, ◌≤◌, Bool, true, cond, ◌&&◌, eqb, ltb, List, [], ◌∷◌, ◌++◌, map, length, get_or, sym, refl, ap, ◌∙◌, subst, not-suc-le-zero, suc-mul, mul_comm, mul-pos, mul-suc, arith, pow_mono}
 use Rattle.std.specs.List.{flat_map, AllByRecursion as All}
 use Rattle.std.proofs.lemmas.Nat.{pow_pos, mul-add-lt, mod_below, shr_below, shr_split, div-add-mod', div_below}
 use Rattle.std.proofs.ByRecursion.{All-get_or, All-append, All-map, All-weaker}

@@ -7,7 +7,7 @@ use Rattle.protocol.specs.Calls.{State, Call, tell, taking, answer, withdraw, er
 use Rattle.protocol.specs.Stands.{erased_symbol}
 use Rattle.trace.specs.Trace.{run, final}
 use Rattle.runs.specs.Runs.{says, step, start}
-use Rattle.runs.specs.Turns.{none, asked, did, taken, answered, withdrawn, total, turned, out_from, turn_of, TurnsBalance}
+use Rattle.runs.specs.Turns.{asked, did, taken, answered, withdrawn, total, turned, out_from, turn_of, TurnsBalance}
 use Rattle.runs.proofs.Placed.{chosen}
 use Rattle.runs.proofs.Verdicts.{taking_is, answer_is, withdraw_is}
 

@@ -1,5 +1,5 @@
 -- A table of rows and columns, stored row after row, and the same elements column after column.
-use Rattle.std.specs.Prelude.{◌≡◌, ℕ, ◌+◌, ◌*◌, ◌/◌, ◌%◌, ◌<◌, ◌≤◌, List, [], ◌∷◌, ◌++◌, map, length, get_or, slice_index_or}
+use Rattle.std.specs.Prelude.{◌≡◌, ℕ, ◌+◌, ◌*◌, ◌/◌, ◌%◌, ◌<◌, ◌≤◌, List, [], ◌∷◌, map, length, get_or, slice_index_or}
 use Rattle.std.specs.List.{range_with_len}
 
 -- the element that lies at place k column after column: column k / rows, row k % rows. Where it is stored row after row

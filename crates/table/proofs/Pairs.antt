@@ -2,8 +2,7 @@
 use Rattle.std.proofs.Common.{◌≡◌, ℕ, zero, suc, ◌+◌, ◌-◌, ◌*◌, ◌<◌, ◌≤◌, List, [], ◌∷◌, ◌++◌, map, length, get_or, take, drop, set, replicate, ℤ, pos, sym, refl, ap, ◌∙◌, ap₂, not-suc-le-zero, suc-mul, mul-le-mul, zero-add, arith}
 use Rattle.std.proofs.lemmas.List.{length-drop}
 use Rattle.observation.specs.declared.Record.{Record}
-use Rattle.protocol.specs.Calls.{Placed, at_symbol, told, spread}
-use Rattle.protocol.specs.Stands.{erased_record}
+use Rattle.protocol.specs.Calls.{at_symbol, told, spread}
 use Rattle.table.specs.Kept.{over, paired, blank}
 
 module _ {X : Type 0} where

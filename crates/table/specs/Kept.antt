@@ -1,10 +1,10 @@
 -- What a table holds, and what each of its calls leaves.
-use Rattle.std.specs.Prelude.{◌≡◌, ℕ, ◌+◌, ◌-◌, ◌*◌, Bool, true, false, List, [], ◌∷◌, ◌++◌, length, take, drop, replicate, ℤ, pos, Ok, Err, Result, slice_index_or, slice_set}
+use Rattle.std.specs.Prelude.{ℕ, ◌+◌, ◌-◌, ◌*◌, Bool, true, false, List, [], ◌∷◌, ◌++◌, length, take, drop, replicate, ℤ, pos, Ok, Err, Result, slice_index_or, slice_set}
 use Rattle.refusal.specs.declared.Refusal.{Refusal}
 use Rattle.constellation.specs.Meaning.{Meaning}
 use Rattle.observation.specs.declared.Record.{Record}
 use Rattle.protocol.specs.Verdicts.{Verdict}
-use Rattle.protocol.specs.Calls.{Placed, State, Outline, Call, tell, taking, answer, withdraw, erase, read, verdict}
+use Rattle.protocol.specs.Calls.{Placed, State, Outline}
 use Rattle.protocol.specs.Stands.{erased_record}
 use Rattle.table.specs.declared.table.Table.{Table}
 use Rattle.table.specs.declared.turn.Turn.{Turn}

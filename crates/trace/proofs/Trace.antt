@@ -1,5 +1,5 @@
 -- From one step to whole runs: what each step keeps, of one machine or of two side by side, and a program's loop that makes the calls of a list.
-use Rattle.std.proofs.Common.{◌≡◌, ℕ, ◌+◌, ◌<◌, ◌≤◌, List, [], ◌∷◌, ◌++◌, map, length, get_or, take, drop, set, sym, refl, ap, ◌∙◌, ap₂, append_assoc, append-nil}
+use Rattle.std.proofs.Common.{◌≡◌, ℕ, ◌+◌, ◌<◌, ◌≤◌, List, [], ◌∷◌, ◌++◌, map, length, get_or, take, drop, set, sym, ap, ◌∙◌, ap₂, append_assoc, append-nil}
 use Rattle.std.specs.List.{AllZip, AllByRecursion as All}
 use Rattle.std.proofs.lemmas.List.{drop_more, drop_all, take_more_set, take_all}
 use Rattle.trace.specs.Trace.{Moment, replies, moment, run, final}

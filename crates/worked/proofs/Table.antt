@@ -2,7 +2,7 @@
 use Rattle.std.proofs.Common.{refl}
 use Rattle.metric.specs.Exhaustive.{sum_to, distance, metric, best, extrinsic}
 use Rattle.metric.specs.Value.{extrinsic_value}
-use Rattle.worked.specs.Examples.{Worked, RatioCodes, RingPoints, SquarePoints, RatioWeights, PskValues, HalfValues, SquareValues, RatioValues}
+use Rattle.worked.specs.Examples.{Worked, RingPoints, SquarePoints, PskValues, HalfValues, SquareValues, RatioValues}
 
 psk_values : PskValues
 unfolding sum_to distance metric best extrinsic extrinsic_value

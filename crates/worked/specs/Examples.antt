@@ -1,7 +1,6 @@
 -- Examples that were worked by hand: labels and points of constellations, weights, and the values that leave the detector.
 use Rattle.std.specs.Prelude.{◌≡◌, ℕ, List, [], ◌∷◌, map, ℤ, pos, neg_ℤ, Some, None, Option}
 use Rattle.constellation.specs.Meaning.{Meaning, bit, nth}
-use Rattle.constellation.specs.declared.Point.{Point}
 use Rattle.kinds.specs.Squares.{counting}
 use Rattle.catalogue.specs.Modes.{mode_meaning}
 use Rattle.metric.specs.Exhaustive.{Complex, Symbol, weighed}

@@ -1,6 +1,6 @@
 use Rattle.observation.proofs.energy.Goals as goal
 use Rattle.std.proofs.Common.{nat_abs, ap, ◌∙◌, arith, w16}
-use Rattle.arith.proofs.Exact.{Is, given, kept}
+use Rattle.arith.proofs.Exact.{given, kept}
 use Rattle.observation.proofs.Antennas.{energy_small}
 
 pub returns : goal.returns

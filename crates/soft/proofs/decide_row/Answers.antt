@@ -1,7 +1,6 @@
-use Rattle.std.proofs.Common.{◌≡◌, ℕ, ◌+◌, ◌-◌, ◌*◌, ◌<◌, ◌≤◌, cond, ◌≢◌, [], ◌∷◌, ◌++◌, length, get_or, take, drop, ℤ, pos, ◌+ℤ◌, sym, refl, ap, ◌∙◌, ap₂, arith, get_or-set_other, get_or-set_same, w16, SFits, rules, below_more}
+use Rattle.std.proofs.Common.{◌≡◌, ◌+◌, ◌-◌, ◌*◌, ◌<◌, cond, ◌≢◌, [], ◌∷◌, ◌++◌, length, get_or, take, drop, pos, ◌+ℤ◌, ◌∙◌, ap₂, arith, get_or-set_other, get_or-set_same, w16, SFits, rules, below_more}
 use lib.Signed.{lt_z}
 use Rattle.std.proofs.lemmas.Int.{to_z-of_z}
-use Rattle.protocol.specs.Calls.{looked}
 use Rattle.detect.specs.Charts.{chart_meaning}
 use Rattle.detect.specs.Kept.{kept_value}
 use Rattle.table.specs.Kept.{blank}

@@ -1,7 +1,6 @@
-use Rattle.std.proofs.Common.{◌≡◌, ◌<◌, get_or, take, arith, rules}
+use Rattle.std.proofs.Common.{◌≡◌, ◌<◌, get_or, take, rules}
 use Rattle.std.proofs.ByRecursion.{All-more}
 use Rattle.std.proofs.lemmas.List.{take_all}
-use Rattle.burstfile.specs.Theorem.{Bytes}
 use Rattle.burstfile.proofs.theorem.are_bytes.Goals as goal
 
 pub loop-b-preserved : goal.loop-b-preserved

@@ -1,12 +1,12 @@
 use Rattle.detect.proofs.pass.bests.Goals as goal
-use Rattle.std.proofs.Common.{◌≡◌, ℕ, ◌+◌, ◌<◌, ◌≤◌, ◌≢◌, List, [], ◌∷◌, length, get_or, set, ℤ, pos, refl, ◌∙◌, subst, arith, lit≤, length-set, get_or-set_other, get_or-set_same, w64, below_more}
+use Rattle.std.proofs.Common.{◌≡◌, ℕ, ◌+◌, ◌<◌, ◌≢◌, List, [], ◌∷◌, length, get_or, set, ℤ, pos, refl, ◌∙◌, subst, arith, lit≤, length-set, get_or-set_other, get_or-set_same, w64, below_more}
 use Rattle.std.proofs.ByRecursion.{All-get_or, All-set}
 use Rattle.std.proofs.lemmas.List.{take_all}
 use Rattle.constellation.specs.declared.Point.{Point}
 use Rattle.detect.specs.Parts.{Placed}
 use Rattle.detect.specs.Tops.{Held, top_of, lowest}
 use Rattle.detect.specs.Buckets.{Gathered, Bucketed, tops_by, place_of}
-use Rattle.arith.proofs.Exact.{Is, equal, kept, small}
+use Rattle.arith.proofs.Exact.{equal, kept, small}
 use Rattle.detect.proofs.Gathering.{gather_more, place_is}
 
 abbrev nowhere : Point

@@ -1,6 +1,6 @@
 use Rattle.detect.proofs.pass.crossed.Goals as goal
 use Rattle.std.proofs.Common.{w64}
-use Rattle.arith.proofs.Exact.{Is, given, kept, plus, sized, small}
+use Rattle.arith.proofs.Exact.{given, kept, plus, sized, small}
 
 pub returns : goal.returns
 returns c =

@@ -1,6 +1,6 @@
 use Rattle.detect.proofs.pass.raised.Goals as goal
 use Rattle.std.proofs.Common.{w64}
-use Rattle.arith.proofs.Exact.{Is, given, fits, kept, plus, minus, sized, topmost, looser, small}
+use Rattle.arith.proofs.Exact.{given, fits, kept, plus, minus, sized, topmost, looser, small}
 use Rattle.detect.proofs.Topping.{both}
 
 pub overflow_add-b-2 : goal.overflow_add-b-2

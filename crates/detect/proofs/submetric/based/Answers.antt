@@ -2,7 +2,7 @@ use Rattle.detect.proofs.submetric.based.Goals as goal
 use Rattle.std.proofs.Common.{◌≡◌, ℕ, ◌≤◌, ℤ, pos, ◌+ℤ◌, ◌*ℤ◌, nat_abs, ap, ◌∙◌, w64}
 use Rattle.observation.specs.declared.Record.{Record}
 use Rattle.detect.specs.Parts.{Basing}
-use Rattle.arith.proofs.Exact.{Is, Known, know, equal, arg, lit, num, keep, ◌⊗◌, ◌⊕◌, ◌⊖◌, fits, small}
+use Rattle.arith.proofs.Exact.{Known, know, equal, arg, lit, num, keep, ◌⊗◌, ◌⊕◌, ◌⊖◌, fits, small}
 
 -- the expression, part by part, as the machine has it
 abbrev squares : (x y : ℕ) → x ≤ 4095 → y ≤ 4095 → Known

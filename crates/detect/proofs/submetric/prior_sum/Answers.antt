@@ -6,7 +6,7 @@ use Rattle.std.proofs.ByRecursion.{All-get_or}
 use Rattle.metric.specs.Exhaustive.{sum_to, label_bit, at_bit}
 use Rattle.metric.proofs.Loops.{sum_more}
 use Rattle.detect.specs.Parts.{prior_sum}
-use Rattle.arith.proofs.Exact.{Is, given, kept, plus}
+use Rattle.arith.proofs.Exact.{given, kept, plus}
 
 -- one bit more
 prior_sum-more : (m label : ℕ) (xs : List ℤ) (j : ℕ) (b : Bool) → label_bit m label (j + 1) ≡ b →

@@ -3,7 +3,7 @@ use Rattle.std.proofs.Common.{◌≡◌, ℕ, zero, suc, ◌-◌, ◌^◌, ◌�
 use Rattle.std.proofs.ByRecursion.{All-get_or}
 use Rattle.metric.specs.Exhaustive.{at_bit}
 use Rattle.detect.specs.Parts.{middle, turn, Given}
-use Rattle.arith.proofs.Exact.{Is, given, equal, counted, kept, small}
+use Rattle.arith.proofs.Exact.{given, equal, counted, kept, small}
 
 abbrev Small : ℤ → Type 0
 Small x = nat_abs x ≤ 8191

@@ -1,6 +1,6 @@
 use Rattle.detect.proofs.submetric.turned.Goals as goal
 use Rattle.std.proofs.Common.{w16, w32, w64}
-use Rattle.arith.proofs.Exact.{Is, given, literal, number, fits, kept, times, minus, small}
+use Rattle.arith.proofs.Exact.{given, literal, number, fits, kept, times, minus, small}
 
 pub overflow_mul-result-2 : goal.overflow_mul-result-2
 overflow_mul-result-2 c =

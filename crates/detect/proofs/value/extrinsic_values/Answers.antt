@@ -4,12 +4,11 @@ use Rattle.std.specs.List.{range_with_len, AllByRecursion as All}
 use Rattle.std.proofs.lemmas.Int.{to_z-of_z}
 use Rattle.std.proofs.ByRecursion.{All-get_or, All-weaker}
 use Rattle.std.proofs.lemmas.List.FromFn.{fill_by_all}
-use Rattle.arith.proofs.Exact.{Is, given, kept, small}
+use Rattle.arith.proofs.Exact.{given, kept, small}
 use Rattle.constellation.specs.Meaning.{Meaning, Lawful, Good}
 use Rattle.metric.specs.Exhaustive.{at_bit}
 use Rattle.metric.specs.Value.{extrinsic_value}
 use Rattle.observation.specs.declared.Record.{Record}
-use Rattle.observation.specs.Observed.{held}
 use Rattle.detect.specs.Parts.{Given, Placed}
 use Rattle.detect.specs.Tops.{Held, value_of}
 use Rattle.detect.specs.Charts.{chart_meaning}

@@ -1,7 +1,7 @@
 use Rattle.detect.proofs.weights.scale.Goals as goal
 use Rattle.std.proofs.Common.{◌^◌, ◌≤◌, ap, ◌∙◌, arith, pow_mono, w64, to_z}
 use Rattle.std.proofs.lemmas.Nat.{one_shl}
-use Rattle.arith.proofs.Exact.{Is, number, small}
+use Rattle.arith.proofs.Exact.{number, small}
 
 pub returns : goal.returns
 returns c =

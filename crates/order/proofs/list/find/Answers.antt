@@ -1,4 +1,4 @@
-use Rattle.std.proofs.Common.{sym, ◌∙◌, arith}
+use Rattle.std.proofs.Common.{arith}
 use Rattle.order.proofs.Loops.{position_here, position_past, position_end}
 use Rattle.order.proofs.list.find.Goals as goal
 

@@ -1,7 +1,7 @@
-use Rattle.std.proofs.Common.{sym, ap, ◌∙◌, arith, take_all}
+use Rattle.std.proofs.Common.{ap, ◌∙◌, arith, take_all}
 use Rattle.constellation.specs.Ordered.{reorder}
 use Rattle.order.proofs.Loops.{reorder-more, reorder-room}
-use Rattle.constellation.proofs.OrderLaws.{Order, order_from}
+use Rattle.constellation.proofs.OrderLaws.{order_from}
 use Rattle.order.proofs.list.rewrite.Goals as goal
 
 pub overflow_mul-r : goal.overflow_mul-r

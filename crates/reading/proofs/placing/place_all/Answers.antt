@@ -1,18 +1,18 @@
-use Rattle.std.proofs.Common.{◌≡◌, ℕ, ◌+◌, ◌<◌, ◌≤◌, cond, leb, length, Some, None, Ok, Err, Option, sym, refl, ap, ◌∙◌, subst, arith, rules}
+use Rattle.std.proofs.Common.{◌≡◌, ℕ, ◌+◌, ◌<◌, ◌≤◌, leb, length, Some, Ok, Option, sym, refl, ap, ◌∙◌, subst, arith}
 use Rattle.std.proofs.lemmas.Result.{err_from_is_err_and}
 use Rattle.catalogue.specs.Modes.{catalogue_meaning}
 use Rattle.catalogue.specs.declared.Catalogue.{Catalogue}
 use Rattle.draft.specs.declared.draft.Draft.{Draft}
 use Rattle.metric.specs.Exhaustive.{Symbol}
-use Rattle.protocol.specs.Verdicts.{Verdict, accepted}
-use Rattle.protocol.specs.Placings.{Placing, opened, open_verdict}
+use Rattle.protocol.specs.Verdicts.{Verdict}
+use Rattle.protocol.specs.Placings.{Placing, opened}
 use Rattle.protocol.specs.Stands.{StandsOpen}
 use Rattle.burst.specs.Public.{open_kept, PlacedBy}
 use Rattle.burstfile.specs.declared.refused.FileRefusal.{FileRefusal}
 use Rattle.burstfile.specs.Refused.{numbered}
 use Rattle.burstfile.specs.Format.{channel_of, symbols_of}
 use Rattle.burstfile.specs.Reading.{laid, contents_of, shown}
-use Rattle.burstfile.specs.Values.{or_else, numbered_fault, priors_fault, vectors_fault, values_fault}
+use Rattle.burstfile.specs.Values.{or_else, numbered_fault, priors_fault, values_fault}
 use Rattle.burstfile.proofs.Numbered.{numbered_ok, numbered_err}
 use Rattle.reading.specs.Held.{placing_of, placed_all}
 use Rattle.reading.proofs.Walking.{along_start, along_step, along_refused, along_end, shift_refused, shift_passed}

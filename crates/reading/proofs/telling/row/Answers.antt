@@ -1,5 +1,5 @@
-use Rattle.std.proofs.Common.{◌≡◌, ℕ, ◌+◌, ◌*◌, ◌<◌, ◌≤◌, length, get_or, drop, ℤ, pos, sym, ap, ◌∙◌, arith, length-drop, length-set, get_or-drop, w16, to_z, of_z}
-use Rattle.std.proofs.lemmas.Int.{to_z-of_z, ints}
+use Rattle.std.proofs.Common.{◌≡◌, ◌*◌, ◌<◌, length, get_or, drop, pos, sym, ◌∙◌, arith, length-drop, length-set, get_or-drop, w16, to_z, of_z}
+use Rattle.std.proofs.lemmas.Int.{to_z-of_z}
 use Rattle.burstfile.specs.Reading.{signeds_of}
 use Rattle.burstfile.proofs.Walks.{halves}
 use Rattle.reading.proofs.Filling.{fill_step}

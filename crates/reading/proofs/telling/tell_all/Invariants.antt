@@ -1,4 +1,4 @@
-use Rattle.std.proofs.Common.{◌≡◌, ℕ}
+use Rattle.std.proofs.Common.{◌≡◌}
 use Rattle.catalogue.specs.Modes.{catalogue_meaning}
 use Rattle.burst.specs.Public.{closed_kept}
 use Rattle.burstfile.specs.Reading.{signeds_of}

@@ -1,4 +1,4 @@
-use Rattle.std.proofs.Common.{◌≡◌, ℕ, ◌+◌, ◌-◌, ◌*◌, ◌<◌, ◌≤◌, length, get_or, sym, refl, ap, ◌∙◌, arith, rules, below_more}
+use Rattle.std.proofs.Common.{◌≡◌, ℕ, ◌+◌, ◌*◌, ◌≤◌, length, get_or, sym, refl, ap, ◌∙◌, arith, rules, below_more}
 use Rattle.std.proofs.lemmas.List.{get_or_read}
 use Rattle.sheet.proofs.Pages.{next_within, page_step, page_end, read_joined, taken}
 use Rattle.sheet.proofs.paper.bytes.Goals as goal

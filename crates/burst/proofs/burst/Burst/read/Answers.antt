@@ -1,13 +1,8 @@
-use Rattle.std.proofs.Common.{◌≡◌, ◌-◌, ◌<◌, ◌≤◌, leb, pos, Ok, Err, sym, refl, ap, ◌∙◌, subst, arith}
+use Rattle.std.proofs.Common.{◌≡◌, Ok, Err, ap, ◌∙◌}
 use Rattle.std.proofs.lemmas.Result.{err_from_is_err_and}
-use Rattle.std.proofs.lemmas.Bool.{and_parts, leb-true}
-use Rattle.protocol.specs.Verdicts.{up_to}
-use Rattle.protocol.specs.Calls.{read, verdict, looked}
-use Rattle.detect.specs.Kept.{kept_value}
-use Rattle.table.specs.Kept.{view, kept, outlined}
-use Rattle.burst.specs.Public.{Read}
+use Rattle.protocol.specs.Calls.{read, verdict}
+use Rattle.table.specs.Kept.{view, outlined}
 use Rattle.burst.proofs.Lifting.{Whole}
-use Rattle.soft.proofs.Rows.{of_paired}
 use Rattle.burst.proofs.Detected.{read_by, seen_at}
 use Rattle.burst.proofs.burst.Burst.read.Goals as goal
 

@@ -1,7 +1,6 @@
-use Rattle.std.proofs.Common.{◌≡◌, ℕ, List, length, take, ℤ, Ok, Err, sym, refl, ap, ◌∙◌, subst, rules}
+use Rattle.std.proofs.Common.{◌≡◌, List, length, take, ℤ, Ok, Err, sym, refl, ap, ◌∙◌, subst}
 use Rattle.std.specs.List.{flat_map}
 use Rattle.std.proofs.lemmas.Result.{err_from_is_err_and}
-use Rattle.constellation.specs.Meaning.{Meaning}
 use Rattle.protocol.specs.Calls.{taking, verdict, extrinsics}
 use Rattle.detect.specs.Kept.{kept_value}
 use Rattle.table.specs.Kept.{view, kept, outlined, paired}

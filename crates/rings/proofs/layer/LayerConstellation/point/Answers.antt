@@ -1,4 +1,4 @@
-use Rattle.std.proofs.Common.{◌≡◌, ◌*◌, ◌<◌, true, length, sym, ap, ◌∙◌}
+use Rattle.std.proofs.Common.{◌≡◌, ◌*◌, ◌<◌, true, length, sym, ◌∙◌}
 use Rattle.constellation.specs.Meaning.{place}
 use Rattle.rings.specs.Copies.{copies}
 use Rattle.rings.specs.Layered.{room}

@@ -1,4 +1,4 @@
-use Rattle.std.proofs.Common.{◌≡◌, sym, ◌∙◌}
+use Rattle.std.proofs.Common.{sym, ◌∙◌}
 use Rattle.rings.specs.LayerLaws.{layered-size}
 use Rattle.rings.proofs.layer.LayerConstellation.size.Goals as goal
 

@@ -1,7 +1,6 @@
-use Rattle.std.proofs.Common.{◌≡◌, ◌+◌, ◌-◌, ◌*◌, ◌≤◌, length, Ok, sym, refl, ◌∙◌, mul-le-mul, arith}
-use Rattle.std.specs.List.{prefix_len}
+use Rattle.std.proofs.Common.{◌+◌, ◌*◌, ◌≤◌, length, mul-le-mul, arith}
 use Rattle.refusal.specs.declared.Cause.TheVariants.{Range}
-use Rattle.protocol.specs.Verdicts.{inside, each, accepted}
+use Rattle.protocol.specs.Verdicts.{inside}
 use Rattle.protocol.proofs.Fronts.{each_front}
 use Rattle.table.proofs.Fronts.{over-kept}
 use Rattle.table.proofs.table.Table.answer.Goals as goal

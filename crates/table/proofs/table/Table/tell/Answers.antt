@@ -1,5 +1,4 @@
-use Rattle.std.proofs.Common.{◌≡◌, ◌+◌, ◌-◌, ◌*◌, ◌≤◌, length, Ok, sym, refl, ◌∙◌, arith}
-use Rattle.std.specs.List.{prefix_len}
+use Rattle.std.proofs.Common.{◌≡◌, ◌+◌, ◌-◌, ◌*◌, ◌≤◌, length, Ok, sym, ◌∙◌, arith}
 use Rattle.refusal.specs.declared.Cause.TheVariants.{Range}
 use Rattle.protocol.specs.Verdicts.{inside, each, accepted}
 use Rattle.table.proofs.Pairs.{symbol_room}
