@@ -3,7 +3,7 @@ use Rattle.std.proofs.Common.{◌≡◌, ℕ, ◌+◌, ◌*◌, ◌<◌, ◌≤�
 use Rattle.std.proofs.lemmas.List.{take-append-drop, length-append, length-take-le, take_at, drop_at}
 use Rattle.std.proofs.ByRecursion.{All-take, All-drop}
 use Rattle.std.proofs.lemmas.Bool.{le-leb, eq-eqb, leb-true, eqb-true, cases_Bool}
-use Rattle.std.specs.List.{flat_map, AllByRecursion as All}
+use Rattle.std.specs.List.{flat_map, AllByRecursion}
 use Rattle.refusal.specs.declared.Refusal.{Refusal}
 use Rattle.burstfile.specs.Format.{Contents, word, signed, vector, encode, VectorShape, Shape, vector_size, channel_of, symbols_of, bits_of}
 use Rattle.burstfile.specs.Reading.{Layout, Whole, laid, cut, cut_antennas, cut_vectors, cut_priors, broken_settings, broken_antennas, broken_priors, priors_allowed, records_size, cut_at, vectors_of, signeds_of, contents_of}
@@ -99,9 +99,9 @@ record PriorsCut (mode shift antennas n : ℕ) (records bs : List ℕ) (l : Layo
   bytes : bs ≡ word (length (signeds_of l.priors)) ++ flat_map signed (signeds_of l.priors)
   count : length (signeds_of l.priors) < 65536
   rule : (length (signeds_of l.priors) ≡ 0) ⊎ (length (signeds_of l.priors) ≡ symbols_of mode n * bits_of mode)
-  fits : All (SFits w16) (signeds_of l.priors)
+  fits : AllByRecursion (SFits w16) (signeds_of l.priors)
 
-priors_made : (mode shift antennas n k : ℕ) (records rest bs : List ℕ) (l : Layout) → All Byte rest → k < 65536 → bs ≡ word k ++ rest
+priors_made : (mode shift antennas n k : ℕ) (records rest bs : List ℕ) (l : Layout) → AllByRecursion Byte rest → k < 65536 → bs ≡ word k ++ rest
     → priors_allowed mode n k ≡ true → length rest ≡ 2 * k
     → record { mode = mode; shift = shift; antennas = antennas; count = n; records = records; priors = rest } ≡ l → PriorsCut mode shift antennas n records bs l
 priors_made mode shift antennas n k records rest bs l all small is allowed len e =
@@ -115,7 +115,7 @@ priors_made mode shift antennas n k records rest bs l all small is allowed len e
       fits = signeds_fit rest all;
     })
 
-priors_cut : (total mode shift antennas n : ℕ) (records bs : List ℕ) (l : Layout) → All Byte bs
+priors_cut : (total mode shift antennas n : ℕ) (records bs : List ℕ) (l : Layout) → AllByRecursion Byte bs
     → cut_priors total mode shift antennas n records bs ≡ Ok l → PriorsCut mode shift antennas n records bs l
 priors_cut total mode shift antennas n records [] l all h = absurd (refused (cut_at total) l h)
 priors_cut total mode shift antennas n records (a ∷ []) l all h = absurd (refused (cut_at total) l h)
@@ -132,19 +132,19 @@ record VectorsCut (mode shift antennas : ℕ) (bs : List ℕ) (l : Layout) : Typ
   antennas_is : l.antennas ≡ antennas
   bytes : bs ≡ word (length (contents_of l).vectors) ++ (flat_map vector (contents_of l).vectors ++ (word (length (contents_of l).priors) ++ flat_map signed (contents_of l).priors))
   count : length (contents_of l).vectors < 65536
-  shapes : All (VectorShape l.antennas (channel_of l.mode l.antennas)) (contents_of l).vectors
+  shapes : AllByRecursion (VectorShape l.antennas (channel_of l.mode l.antennas)) (contents_of l).vectors
   prior_count : length (contents_of l).priors < 65536
   prior_rule : (length (contents_of l).priors ≡ 0) ⊎ (length (contents_of l).priors ≡ symbols_of l.mode (length (contents_of l).vectors) * bits_of l.mode)
-  priors : All (SFits w16) (contents_of l).priors
+  priors : AllByRecursion (SFits w16) (contents_of l).priors
 
-vectors_made : (mode shift antennas n : ℕ) (bs : List ℕ) (l : Layout) → All Byte bs → n < 65536 → records_size mode antennas n ≤ length bs
+vectors_made : (mode shift antennas n : ℕ) (bs : List ℕ) (l : Layout) → AllByRecursion Byte bs → n < 65536 → records_size mode antennas n ≤ length bs
     → PriorsCut mode shift antennas n (take (records_size mode antennas n) bs) (drop (records_size mode antennas n) bs) l
     → VectorsCut mode shift antennas (word n ++ bs) l
 vectors_made mode shift antennas n bs l all small fits p =
     let b = channel_of mode antennas in
     let size = records_size mode antennas n in
     let len : length (take size bs) ≡ size = length-take-le size bs fits in
-    let records : All Byte (take size bs) = All-take Byte size bs all in
+    let records : AllByRecursion Byte (take size bs) = All-take Byte size bs all in
     let m : length (vectors_of n (vector_size antennas b) antennas (take size bs)) ≡ n = length-vectors_of n (vector_size antennas b) antennas (take size bs) in
     let vs = vectors_of n (vector_size antennas b) antennas (take size bs) in
     let ps = signeds_of l.priors in
@@ -162,7 +162,7 @@ vectors_made mode shift antennas n bs l all small fits p =
       priors = p.fits;
     })
 
-vectors_cut : (total mode shift antennas : ℕ) (bs : List ℕ) (l : Layout) → All Byte bs
+vectors_cut : (total mode shift antennas : ℕ) (bs : List ℕ) (l : Layout) → AllByRecursion Byte bs
     → cut_vectors total mode shift antennas bs ≡ Ok l → VectorsCut mode shift antennas bs l
 vectors_cut total mode shift antennas [] l all h = absurd (refused (cut_at total) l h)
 vectors_cut total mode shift antennas (a ∷ []) l all h = absurd (refused (cut_at total) l h)
@@ -191,7 +191,7 @@ shaped mode shift antennas bs l ml mh sh al ah v = (
   },
 )
 
-antennas_cut : (total mode shift : ℕ) (bs : List ℕ) (l : Layout) → shift < 256 → All Byte bs → 1 ≤ mode → mode ≤ 10 → cut_antennas total mode shift bs ≡ Ok l
+antennas_cut : (total mode shift : ℕ) (bs : List ℕ) (l : Layout) → shift < 256 → AllByRecursion Byte bs → 1 ≤ mode → mode ≤ 10 → cut_antennas total mode shift bs ≡ Ok l
     → (2 ∷ mode ∷ shift ∷ bs ≡ encode (contents_of l)) × Shape (contents_of l)
 antennas_cut total mode shift [] l ls all ml mh h = absurd (refused (cut_at total) l h)
 antennas_cut total mode shift (d ∷ bs) l ls (ld, all) ml mh h =

@@ -1,7 +1,7 @@
 -- No value breaks its rule exactly where the contents are in range.
 use Rattle.std.proofs.Common.{◌≡◌, ℕ, ◌+◌, ◌≤◌, leb, List, [], ◌∷◌, length, ℤ, nat_abs, Some, None, Ok, Err, Option, Result, refl, ap, ◌∙◌, subst, inl, inr, arith}
 use Rattle.std.proofs.lemmas.Bool.{le-leb, leb-true, cases_Bool}
-use Rattle.std.specs.List.{AllByRecursion as All}
+use Rattle.std.specs.List.{AllByRecursion}
 use Rattle.refusal.specs.declared.Refusal.{Refusal}
 use Rattle.burstfile.specs.declared.refused.FileRefusal.{FileRefusal}
 use Rattle.burstfile.specs.Refused.{in_record}
@@ -16,14 +16,14 @@ number_none : (n : ℕ) (o : Option Refusal) → numbered_fault n o ≡ None →
 number_none n None e = refl
 number_none n (Some f) e = absurd (some_none (in_record n f) e)
 
-pairs_good : (k : ℕ) (ps : List Pair) → pairs_fault k ps ≡ None → All PairInRange ps
+pairs_good : (k : ℕ) (ps : List Pair) → pairs_fault k ps ≡ None → AllByRecursion PairInRange ps
 pairs_good k [] e = tt
 pairs_good k (p ∷ ps) e =
     let a = cond_none (within 1023 p.re) _ _ e in
     let b = cond_none (within 1023 p.im) _ _ a.1 in
     (record { re = leb-true (nat_abs p.re) 1023 a.0; im = leb-true (nat_abs p.im) 1023 b.0 }, pairs_good (k + 1) ps b.1)
 
-good_pairs : (k : ℕ) (ps : List Pair) → All PairInRange ps → pairs_fault k ps ≡ None
+good_pairs : (k : ℕ) (ps : List Pair) → AllByRecursion PairInRange ps → pairs_fault k ps ≡ None
 good_pairs k [] all = refl
 good_pairs k (p ∷ ps) (g, all) = rw (le-leb (nat_abs p.re) 1023 g.re, le-leb (nat_abs p.im) 1023 g.im) (good_pairs (k + 1) ps all)
 
@@ -39,7 +39,7 @@ good_vector : (mode i : ℕ) (v : Vector) → VectorInRange v → i ≤ limit_of
 good_vector mode i v g l =
     rw (good_pairs 1 v.y g.y, good_pairs 1 v.h g.h, le-leb v.weight 1023 g.weight, le-leb i (limit_of mode) l)
 
-vectors_good : (mode i : ℕ) (vs : List Vector) → i ≤ limit_of mode + 1 → vectors_fault mode i vs ≡ None → All VectorInRange vs × (i + length vs ≤ limit_of mode + 1)
+vectors_good : (mode i : ℕ) (vs : List Vector) → i ≤ limit_of mode + 1 → vectors_fault mode i vs ≡ None → AllByRecursion VectorInRange vs × (i + length vs ≤ limit_of mode + 1)
 vectors_good mode i [] l e = (tt, omega arith)
 vectors_good mode i (v ∷ vs) l e =
     let a = or_none (numbered_fault i (vector_fault mode i v)) _ e in
@@ -47,15 +47,15 @@ vectors_good mode i (v ∷ vs) l e =
     let gs = vectors_good mode (i + 1) vs (omega (arith, g.1)) a.1 in
     ((g.0, gs.0), omega (arith, gs.1))
 
-good_vectors : (mode i : ℕ) (vs : List Vector) → All VectorInRange vs → i + length vs ≤ limit_of mode + 1 → vectors_fault mode i vs ≡ None
+good_vectors : (mode i : ℕ) (vs : List Vector) → AllByRecursion VectorInRange vs → i + length vs ≤ limit_of mode + 1 → vectors_fault mode i vs ≡ None
 good_vectors mode i [] all l = refl
 good_vectors mode i (v ∷ vs) (g, all) l = rw (good_vector mode i v g (omega arith)) (good_vectors mode (i + 1) vs all (omega arith))
 
-priors_good : (k : ℕ) (zs : List ℤ) → priors_fault k zs ≡ None → All (λ z. nat_abs z ≤ 8191) zs
+priors_good : (k : ℕ) (zs : List ℤ) → priors_fault k zs ≡ None → AllByRecursion (λ z. nat_abs z ≤ 8191) zs
 priors_good k [] e = tt
 priors_good k (z ∷ zs) e = let a = cond_none (within 8191 z) _ _ e in (leb-true (nat_abs z) 8191 a.0, priors_good (k + 1) zs a.1)
 
-good_priors : (k : ℕ) (zs : List ℤ) → All (λ z. nat_abs z ≤ 8191) zs → priors_fault k zs ≡ None
+good_priors : (k : ℕ) (zs : List ℤ) → AllByRecursion (λ z. nat_abs z ≤ 8191) zs → priors_fault k zs ≡ None
 good_priors k [] all = refl
 good_priors k (z ∷ zs) (g, all) = rw (le-leb (nat_abs z) 8191 g) (good_priors (k + 1) zs all)
 

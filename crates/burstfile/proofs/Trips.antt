@@ -5,7 +5,7 @@ use mir.ValLaws.{to_z-Fits}
 use Rattle.std.proofs.lemmas.List.{take-append-drop, length-append, length-take-le, length-drop, take_at, drop_at}
 use Rattle.std.proofs.ByRecursion.{All-take, All-drop}
 use Rattle.std.proofs.lemmas.Int.{to_z-of_z, of_z-to_z}
-use Rattle.std.specs.List.{flat_map, AllByRecursion as All}
+use Rattle.std.specs.List.{flat_map, AllByRecursion}
 use Rattle.burstfile.specs.Format.{Pair, Vector, word, signed, pair, vector, PairShape, VectorShape}
 use Rattle.burstfile.specs.Reading.{signed_of, pairs_of, vector_of, vectors_of, signeds_of}
 
@@ -24,7 +24,7 @@ signed_of_lem a b la lb = rw (of_z-to_z w16 (a * 256 + b) (omega arith)) (word_o
 both : {p p' q q' : List ℕ} → p ≡ p' → q ≡ q' → p ++ q ≡ p' ++ q'
 both e f = cc
 
-pub pairs_of_lem : (n : ℕ) (bs : List ℕ) → All Byte bs → length bs ≡ 4 * n → flat_map pair (pairs_of bs) ≡ bs
+pub pairs_of_lem : (n : ℕ) (bs : List ℕ) → AllByRecursion Byte bs → length bs ≡ 4 * n → flat_map pair (pairs_of bs) ≡ bs
 pairs_of_lem n [] bytes e = refl
 pairs_of_lem n (a ∷ []) bytes e = absurd (omega arith)
 pairs_of_lem n (a ∷ b ∷ []) bytes e = absurd (omega arith)
@@ -43,7 +43,7 @@ length-pairs_of n (a ∷ b ∷ c ∷ d ∷ bs) e = omega (arith, length-pairs_of
 pub signed_fits : (a b : ℕ) → a < 256 → b < 256 → SFits w16 (signed_of a b)
 signed_fits a b la lb = search (rules, to_z-Fits)
 
-pub pairs_fit : (bs : List ℕ) → All Byte bs → All PairShape (pairs_of bs)
+pub pairs_fit : (bs : List ℕ) → AllByRecursion Byte bs → AllByRecursion PairShape (pairs_of bs)
 pairs_fit [] bytes = tt
 pairs_fit (a ∷ []) bytes = tt
 pairs_fit (a ∷ b ∷ []) bytes = tt
@@ -51,7 +51,7 @@ pairs_fit (a ∷ b ∷ c ∷ []) bytes = tt
 pairs_fit (a ∷ b ∷ c ∷ d ∷ bs) (la, (lb, (lc, (ld, bytes)))) =
     (record { re = signed_fits a b la lb; im = signed_fits c d lc ld }, pairs_fit bs bytes)
 
-pub vector_of_lem : (a b : ℕ) (bs : List ℕ) → All Byte bs → length bs ≡ 2 + 4 * a + 4 * b → vector (vector_of a bs) ≡ bs
+pub vector_of_lem : (a b : ℕ) (bs : List ℕ) → AllByRecursion Byte bs → length bs ≡ 2 + 4 * a + 4 * b → vector (vector_of a bs) ≡ bs
 vector_of_lem a b [] bytes e = absurd (omega arith)
 vector_of_lem a b (x ∷ []) bytes e = absurd (omega arith)
 vector_of_lem a b (x ∷ y ∷ bs) (lx, (ly, bytes)) e =
@@ -60,7 +60,7 @@ vector_of_lem a b (x ∷ y ∷ bs) (lx, (ly, bytes)) e =
     both (word_of x y ly) (both (pairs_of_lem a (take (4 * a) bs) (All-take Byte (4 * a) bs bytes) lt) (pairs_of_lem b (drop (4 * a) bs) (All-drop Byte (4 * a) bs bytes) lh)
     ∙ take-append-drop (4 * a) bs)
 
-pub vector_shaped : (a b : ℕ) (bs : List ℕ) → All Byte bs → length bs ≡ 2 + 4 * a + 4 * b → VectorShape a b (vector_of a bs)
+pub vector_shaped : (a b : ℕ) (bs : List ℕ) → AllByRecursion Byte bs → length bs ≡ 2 + 4 * a + 4 * b → VectorShape a b (vector_of a bs)
 vector_shaped a b [] bytes e = absurd (omega arith)
 vector_shaped a b (x ∷ []) bytes e = absurd (omega arith)
 vector_shaped a b (x ∷ y ∷ bs) (lx, (ly, bytes)) e =
@@ -72,7 +72,7 @@ vector_shaped a b (x ∷ y ∷ bs) (lx, (ly, bytes)) e =
       h_fits = pairs_fit (drop (4 * a) bs) (All-drop Byte (4 * a) bs bytes);
     }
 
-pub vectors_of_lem : (n a b : ℕ) (bs : List ℕ) → All Byte bs → length bs ≡ n * (2 + 4 * a + 4 * b)
+pub vectors_of_lem : (n a b : ℕ) (bs : List ℕ) → AllByRecursion Byte bs → length bs ≡ n * (2 + 4 * a + 4 * b)
     → flat_map vector (vectors_of n (2 + 4 * a + 4 * b) a bs) ≡ bs
 vectors_of_lem zero a b [] bytes e = refl
 vectors_of_lem zero a b (x ∷ bs) bytes e = absurd (omega arith)
@@ -84,8 +84,8 @@ vectors_of_lem (suc n) a b bs bytes e =
     both (vector_of_lem a b (take size bs) (All-take Byte size bs bytes) front) (vectors_of_lem n a b (drop size bs) (All-drop Byte size bs bytes) after)
     ∙ take-append-drop size bs
 
-pub vectors_shaped : (n a b : ℕ) (bs : List ℕ) → All Byte bs → length bs ≡ n * (2 + 4 * a + 4 * b)
-    → All (VectorShape a b) (vectors_of n (2 + 4 * a + 4 * b) a bs)
+pub vectors_shaped : (n a b : ℕ) (bs : List ℕ) → AllByRecursion Byte bs → length bs ≡ n * (2 + 4 * a + 4 * b)
+    → AllByRecursion (VectorShape a b) (vectors_of n (2 + 4 * a + 4 * b) a bs)
 vectors_shaped zero a b bs bytes e = tt
 vectors_shaped (suc n) a b bs bytes e =
     let size = 2 + 4 * a + 4 * b in
@@ -98,7 +98,7 @@ pub length-vectors_of : (n size a : ℕ) (bs : List ℕ) → length (vectors_of 
 length-vectors_of zero size a bs = refl
 length-vectors_of (suc n) size a bs = ap suc (length-vectors_of n size a (drop size bs))
 
-pub signeds_of_lem : (n : ℕ) (bs : List ℕ) → All Byte bs → length bs ≡ 2 * n → flat_map signed (signeds_of bs) ≡ bs
+pub signeds_of_lem : (n : ℕ) (bs : List ℕ) → AllByRecursion Byte bs → length bs ≡ 2 * n → flat_map signed (signeds_of bs) ≡ bs
 signeds_of_lem n [] bytes e = refl
 signeds_of_lem n (a ∷ []) bytes e = absurd (omega arith)
 signeds_of_lem n (a ∷ b ∷ bs) (la, (lb, bytes)) e = both (signed_of_lem a b la lb) (signeds_of_lem (n - 1) bs bytes (omega arith))
@@ -108,7 +108,7 @@ length-signeds_of n [] e = omega arith
 length-signeds_of n (a ∷ []) e = absurd (omega arith)
 length-signeds_of n (a ∷ b ∷ bs) e = omega (arith, length-signeds_of (n - 1) bs (omega arith))
 
-pub signeds_fit : (bs : List ℕ) → All Byte bs → All (SFits w16) (signeds_of bs)
+pub signeds_fit : (bs : List ℕ) → AllByRecursion Byte bs → AllByRecursion (SFits w16) (signeds_of bs)
 signeds_fit [] bytes = tt
 signeds_fit (a ∷ []) bytes = tt
 signeds_fit (a ∷ b ∷ bs) (la, (lb, bytes)) = (signed_fits a b la lb, signeds_fit bs bytes)
@@ -121,7 +121,7 @@ word_is n = div-add-mod' n 256
 pub signed_is : (z : ℤ) → SFits w16 z → signed_of (of_z w16 z / 256) (of_z w16 z % 256) ≡ z
 signed_is z fits = rw (word_is (of_z w16 z)) (to_z-of_z w16 z fits)
 
-pub pairs_is : (ps : List Pair) → All PairShape ps → pairs_of (flat_map pair ps) ≡ ps
+pub pairs_is : (ps : List Pair) → AllByRecursion PairShape ps → pairs_of (flat_map pair ps) ≡ ps
 pairs_is [] shape = refl
 pairs_is (p ∷ ps) (s, shape) = rw (signed_is p.re s.re, signed_is p.im s.im, pairs_is ps shape)
 
@@ -137,18 +137,18 @@ vector_is a b v s =
 pub length-vector : (a b : ℕ) (v : Vector) → VectorShape a b v → length (vector v) ≡ 2 + 4 * a + 4 * b
 length-vector a b v s = omega (arith, length-append (flat_map pair v.y) (flat_map pair v.h), length_pairs v.y, length_pairs v.h, s.y, s.h)
 
-pub length_vectors : (a b : ℕ) (vs : List Vector) → All (VectorShape a b) vs → length (flat_map vector vs) ≡ length vs * (2 + 4 * a + 4 * b)
+pub length_vectors : (a b : ℕ) (vs : List Vector) → AllByRecursion (VectorShape a b) vs → length (flat_map vector vs) ≡ length vs * (2 + 4 * a + 4 * b)
 length_vectors a b [] shape = omega arith
 length_vectors a b (v ∷ vs) (s, shape) =
     omega (arith, length-append (vector v) (flat_map vector vs), length-vector a b v s, length_vectors a b vs shape, suc-mul (length vs) (2 + 4 * a + 4 * b))
 
-pub vectors_is : (a b : ℕ) (vs : List Vector) → All (VectorShape a b) vs → vectors_of (length vs) (2 + 4 * a + 4 * b) a (flat_map vector vs) ≡ vs
+pub vectors_is : (a b : ℕ) (vs : List Vector) → AllByRecursion (VectorShape a b) vs → vectors_of (length vs) (2 + 4 * a + 4 * b) a (flat_map vector vs) ≡ vs
 vectors_is a b [] shape = refl
 vectors_is a b (v ∷ vs) (s, shape) =
     let l = length-vector a b v s in
     rw (take_at (vector v) (flat_map vector vs) (2 + 4 * a + 4 * b) l, drop_at (vector v) (flat_map vector vs) (2 + 4 * a + 4 * b) l, vector_is a b v s, vectors_is a b vs shape)
 
-pub signeds_is : (zs : List ℤ) → All (SFits w16) zs → signeds_of (flat_map signed zs) ≡ zs
+pub signeds_is : (zs : List ℤ) → AllByRecursion (SFits w16) zs → signeds_of (flat_map signed zs) ≡ zs
 signeds_is [] shape = refl
 signeds_is (z ∷ zs) (s, shape) = rw (signed_is z s, signeds_is zs shape)
 

@@ -2,7 +2,7 @@
 use Rattle.std.specs.Prelude.{◌≡◌, ℕ, ◌+◌, ◌-◌, ◌*◌, ◌/◌, ◌%◌, ◌<◌, ◌≤◌, cond, ◌⊎◌, List, [], ◌∷◌, ◌++◌, length, ℤ, FitsSigned, ◌==◌, nat_le, unsigned_abs}
 use Rattle.std.specs.Int.{w16}
 use Rattle.std.proofs.Common.{of_z}
-use Rattle.std.specs.List.{flat_map, AllByRecursion as All}
+use Rattle.std.specs.List.{flat_map, AllByRecursion}
 
 -- what one antenna received, or its channel
 pub record Pair : Type 0 where
@@ -68,8 +68,8 @@ pub record VectorShape (a b : ℕ) (v : Vector) : Type 0 where
   pub weight : v.weight < 65536
   pub y : length v.y ≡ a
   pub h : length v.h ≡ b
-  pub y_fits : All PairShape v.y
-  pub h_fits : All PairShape v.h
+  pub y_fits : AllByRecursion PairShape v.y
+  pub h_fits : AllByRecursion PairShape v.h
 
 -- What can be written: each number fits its field, each field keeps its rule, and the counts agree.
 pub record Shape (c : Contents) : Type 0 where
@@ -79,10 +79,10 @@ pub record Shape (c : Contents) : Type 0 where
   pub antennas_low : 1 ≤ c.antennas
   pub antennas_high : c.antennas ≤ 4
   pub count : length c.vectors < 65536
-  pub vectors : All (VectorShape c.antennas (channel_of c.mode c.antennas)) c.vectors
+  pub vectors : AllByRecursion (VectorShape c.antennas (channel_of c.mode c.antennas)) c.vectors
   pub prior_count : length c.priors < 65536
   pub prior_rule : (length c.priors ≡ 0) ⊎ (length c.priors ≡ symbols_of c.mode (length c.vectors) * bits_of c.mode)
-  pub priors : All (FitsSigned w16) c.priors
+  pub priors : AllByRecursion (FitsSigned w16) c.priors
 
 pub record PairInRange (p : Pair) : Type 0 where
   pub re : unsigned_abs p.re ≤ 1023
@@ -90,15 +90,15 @@ pub record PairInRange (p : Pair) : Type 0 where
 
 pub record VectorInRange (v : Vector) : Type 0 where
   pub weight : v.weight ≤ 1023
-  pub y : All PairInRange v.y
-  pub h : All PairInRange v.h
+  pub y : AllByRecursion PairInRange v.y
+  pub h : AllByRecursion PairInRange v.h
 
 -- What a burst takes of what can be written.
 pub record InRange (c : Contents) : Type 0 where
   pub shift : c.shift ≤ 40
-  pub vectors : All VectorInRange c.vectors
+  pub vectors : AllByRecursion VectorInRange c.vectors
   pub symbols : symbols_of c.mode (length c.vectors) ≤ 128
-  pub priors : All (λ z. unsigned_abs z ≤ 8191) c.priors
+  pub priors : AllByRecursion (λ z. unsigned_abs z ≤ 8191) c.priors
 
 pub record Rules (c : Contents) : Type 0 where
   pub shape : Shape c

@@ -1,12 +1,12 @@
 -- What is accepted, in the format's terms.
 use Rattle.std.specs.Prelude.{◌≡◌, ℕ, ◌<◌, List, Ok}
-use Rattle.std.specs.List.{AllByRecursion as All}
+use Rattle.std.specs.List.{AllByRecursion}
 use Rattle.burstfile.specs.Format.{Contents, Shape, Rules, encode}
 use Rattle.burstfile.specs.Reading.{Layout, cut, contents_of}
 use Rattle.burstfile.specs.Values.{read_spec}
 
 abbrev pub Bytes : List ℕ → Type 0
-Bytes bs = All (λ b. b < 256) bs
+Bytes bs = AllByRecursion (λ b. b < 256) bs
 
 -- the bytes are the encoding of contents that can be written
 abbrev pub Shaped : List ℕ → Contents → Type 0

@@ -1,6 +1,6 @@
 -- The laws of one written-out constellation, by one test that antt computes.
 use Rattle.std.proofs.Common.{◌≡◌, ℕ, zero, suc, ◌^◌, ◌<◌, Bool, true, false, cond, not, ◌&&◌, ◌||◌, eqb, ltb, leb, List, [], ◌∷◌, length, sym, refl, ◌∙◌, inl, inr, not-suc-le-zero, arith}
-use Rattle.std.specs.List.{AllByRecursion as All}
+use Rattle.std.specs.List.{AllByRecursion}
 use Rattle.std.proofs.lemmas.Bool.{leb-true, ltb-true, eqb-true, eq-eqb, cases_eq, and_parts, and_from, cond-true}
 use Rattle.std.proofs.lemmas.Bool.Decides.{nat_tests, Decides-by_or, Decides-eqb}
 use Rattle.constellation.specs.Meaning.{Meaning, Lawful, Good, Carried, bit, origin}
@@ -32,7 +32,7 @@ abbrev all_goodb : ℕ → ℕ → ℕ → List Point → Bool
 all_goodb m u v [] = true
 all_goodb m u v (p ∷ ps) = goodb m u v p && all_goodb m u v ps
 
-all_good_from : (m u v : ℕ) (ps : List Point) → all_goodb m u v ps ≡ true → All (Good m u v) ps
+all_good_from : (m u v : ℕ) (ps : List Point) → all_goodb m u v ps ≡ true → AllByRecursion (Good m u v) ps
 all_good_from m u v [] h = tt
 all_good_from m u v (p ∷ ps) h = let a = and_parts _ _ h in (good_from m u v p a.0, all_good_from m u v ps a.1)
 

@@ -1,6 +1,6 @@
 -- What a constellation means: the number of bits of a label, the positions of the two sign bits, and the points of the first quadrant.
 use Rattle.std.specs.Prelude.{◌≡◌, ℕ, ◌-◌, ◌/◌, ◌%◌, ◌^◌, ◌<◌, ◌≤◌, min, List, length, get_or, slice_index_or}
-use Rattle.std.specs.List.{AllByRecursion as All}
+use Rattle.std.specs.List.{AllByRecursion}
 use Rattle.constellation.specs.declared.Point.{Point}
 
 -- m: bits of a label. u: the position of the imaginary sign. v: that of the real sign.
@@ -52,5 +52,5 @@ pub record Lawful (M : Meaning) : Type 0 where
   pub apart : M.u ≡ M.v → ⊥
   pub some : 1 ≤ length M.points
   pub few : length M.points ≤ 64
-  pub good : All (Good M.m M.u M.v) M.points
+  pub good : AllByRecursion (Good M.m M.u M.v) M.points
   pub carried : (l : ℕ) → l < 2 ^ M.m → bit M.m M.u l ≡ 0 → bit M.m M.v l ≡ 0 → Carried M.points l

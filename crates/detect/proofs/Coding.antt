@@ -2,7 +2,7 @@
 use Rattle.std.proofs.Common.{◌≡◌, ℕ, zero, suc, ◌/◌, ◌%◌, ◌^◌, ◌<◌, ◌≤◌, Bool, true, false, cond, eqb, ltb, List, [], ◌∷◌, get_or, ℤ, pos, ◌≤ℤ◌, Some, None, Option, sym, refl, ap, ◌∙◌, ap₂, inl, inr, arith}
 use mathlib.Core.Bool.{beq}
 use Rattle.std.specs.Int.{int_max}
-use Rattle.std.specs.List.{AllByRecursion as All}
+use Rattle.std.specs.List.{AllByRecursion}
 use Rattle.std.proofs.lemmas.Int.{ints, clamps}
 use Rattle.std.proofs.lemmas.Bool.Decides.{eqb_tells, nat_tests}
 use Rattle.metric.specs.Exhaustive.{greater}
@@ -72,7 +72,7 @@ greater_above None p h k = k
 greater_above (Some a) None h k = h
 greater_above (Some a) (Some b) h k = max_above a b h k
 
-pub tops_above : (f : Point → ℤ) (t : Point → Bool) (ps : List Point) → All (λ p. lowest ≤ℤ f p) ps → Above (tops_by f t ps)
+pub tops_above : (f : Point → ℤ) (t : Point → Bool) (ps : List Point) → AllByRecursion (λ p. lowest ≤ℤ f p) ps → Above (tops_by f t ps)
 unfolding tops_by
 tops_above f t [] h = lowest_above
 tops_above f t (p ∷ ps) h = greater_above (cond (t p) (Some (f p)) None) (tops_by f t ps) (go (t p)) (tops_above f t ps h.1)
@@ -110,7 +110,7 @@ under_more g i b n p = elim (eqb_tells (g p) n) [
     plain true = refl
     plain false = refl
 
-pub over_is : (f : Point → ℤ) (g : Point → ℕ) (i : ℕ) (b : Bool) (xs : List ℤ) (ps : List Point) → All (λ p. lowest ≤ℤ f p) ps →
+pub over_is : (f : Point → ℤ) (g : Point → ℕ) (i : ℕ) (b : Bool) (xs : List ℤ) (ps : List Point) → AllByRecursion (λ p. lowest ≤ℤ f p) ps →
     ((l : ℕ) → l < 16 → get_or xs l (pos 0) ≡ coded (tops_by f (λ p. eqb (g p) l) ps)) → (n : ℕ) → n ≤ 16 → over_codes i b xs n ≡ coded (tops_by f (under g i b n) ps)
 unfolding over_codes
 over_is f g i b xs ps high at zero l = ap coded (sym (tops_same f (under g i b zero) (λ p. false) none ps ∙ tops_none f ps))

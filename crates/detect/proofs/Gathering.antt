@@ -2,7 +2,7 @@
 use Rattle.std.proofs.Common.{◌≡◌, ℕ, zero, suc, ◌+◌, ◌-◌, ◌/◌, ◌%◌, ◌^◌, ◌<◌, ◌≤◌, Bool, true, false, cond, eqb, ltb, ◌≢◌, List, [], ◌∷◌, ◌++◌, length, get_or, take, set, ℤ, pos, ◌+ℤ◌, ◌-ℤ◌, neg_ℤ, nat_abs, ◌≤ℤ◌, Some, None, Option, sym, refl, ap, ◌∙◌, subst, ap₂, inl, inr, arith, get_or-set_other, get_or-set_same}
 use mathlib.Core.Bool.{beq}
 use Rattle.std.specs.Int.{int_max}
-use Rattle.std.specs.List.{AllByRecursion as All}
+use Rattle.std.specs.List.{AllByRecursion}
 use Rattle.std.proofs.lemmas.Int.{ints, clamps}
 use Rattle.std.proofs.lemmas.Bool.Decides.{leb_tells, eqb_tells, nat_tests}
 use Rattle.std.proofs.lemmas.List.{take_more}
@@ -44,7 +44,7 @@ max_in a b h k = omega (arith, ints, clamps)
 pub bucket_more : (f : Point → ℤ) (g : Point → ℕ) (ps : List Point) (i : ℕ) (d : Point) {xs ys : List ℤ} {c : ℤ} → i < length ps → g (get_or ps i d) < 16 →
     Bucketed f g (take i ps) xs → length ys ≡ 16 → ys ≡ set xs (g (get_or ps i d)) (int_max (get_or xs (g (get_or ps i d)) (pos 0)) c) → c ≡ f (get_or ps i d) → Within c →
     Bucketed f g (take (i + 1) ps) ys
-bucket_more f g ps i d {xs} {ys} {c} h s inv long e q w = record { long = long; bounded = subst (All Within) (sym e) (All-set Within xs n _ (max_in (get_or xs n (pos 0)) c old w) inv.bounded); at = at }
+bucket_more f g ps i d {xs} {ys} {c} h s inv long e q w = record { long = long; bounded = subst (AllByRecursion Within) (sym e) (All-set Within xs n _ (max_in (get_or xs n (pos 0)) c old w) inv.bounded); at = at }
   where
     n : ℕ
     n = g (get_or ps i d)
@@ -180,7 +180,7 @@ other_is r shift a m u v k b (p ∷ ps) e f = ap₂ greater (rw (e, f, plus_none
 ltb_16 : (n : ℕ) → n < 16 → ltb n 16 ≡ true
 ltb_16 n h = grind (arith, nat_tests)
 
-pub over_low : (r : Record) (shift : ℕ) (a : List ℤ) (m u v k i : ℕ) (b : Bool) (ps : List Point) (xs : List ℤ) → All (λ p. lowest ≤ℤ cross_of r shift a m u v p) ps → Bucketed (cross_of r shift a m u v) low_half ps xs →
+pub over_low : (r : Record) (shift : ℕ) (a : List ℤ) (m u v k i : ℕ) (b : Bool) (ps : List Point) (xs : List ℤ) → AllByRecursion (λ p. lowest ≤ℤ cross_of r shift a m u v p) ps → Bucketed (cross_of r shift a m u v) low_half ps xs →
     eqb k v ≡ false → eqb k u ≡ false → m - k ≡ i → i < 4 → over_codes i b xs 16 ≡ coded (top_of r shift a m u v k b ps)
 over_low r shift a m u v k i b ps xs high inv e f q l =
     over_is (cross_of r shift a m u v) low_half i b xs ps high inv.at 16 (omega arith)
@@ -192,7 +192,7 @@ over_low r shift a m u v k i b ps xs high inv e f q l =
     each : (p : Point) → under low_half i b 16 p ≡ beq (label_bit m p.label k) b
     each p = rw (ltb_16 (p.label % 16) (small p.label), low_bit p.label i l, q)
 
-pub over_high : (r : Record) (shift : ℕ) (a : List ℤ) (m u v k i : ℕ) (b : Bool) (ps : List Point) (xs : List ℤ) → All (λ p. lowest ≤ℤ cross_of r shift a m u v p) ps → Bucketed (cross_of r shift a m u v) high_half ps xs →
+pub over_high : (r : Record) (shift : ℕ) (a : List ℤ) (m u v k i : ℕ) (b : Bool) (ps : List Point) (xs : List ℤ) → AllByRecursion (λ p. lowest ≤ℤ cross_of r shift a m u v p) ps → Bucketed (cross_of r shift a m u v) high_half ps xs →
     eqb k v ≡ false → eqb k u ≡ false → m - k ≡ i + 4 → i < 4 → over_codes i b xs 16 ≡ coded (top_of r shift a m u v k b ps)
 over_high r shift a m u v k i b ps xs high inv e f q l =
     over_is (cross_of r shift a m u v) high_half i b xs ps high inv.at 16 (omega arith)

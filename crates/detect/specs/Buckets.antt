@@ -2,7 +2,7 @@
 use Rattle.std.specs.Prelude.{◌≡◌, ℕ, zero, suc, ◌+◌, ◌-◌, ◌/◌, ◌%◌, ◌^◌, ◌<◌, ◌≤◌, Bool, true, false, cond, List, [], ◌∷◌, length, ℤ, pos, ◌+ℤ◌, ◌≤ℤ◌, Some, None, Option, ◌==◌, nat_eq, nat_lt, slice_index_or, unsigned_abs}
 use Rattle.std.specs.Bool.{beq}
 use Rattle.std.specs.Int.{int_max}
-use Rattle.std.specs.List.{AllByRecursion as All}
+use Rattle.std.specs.List.{AllByRecursion}
 use Rattle.constellation.specs.declared.Point.{Point}
 use Rattle.metric.specs.Exhaustive.{greater}
 use Rattle.metric.specs.Reduced.{absolute}
@@ -34,7 +34,7 @@ high_half p = (p.label / 16) % 16
 -- xs has at l the best of the points whose code is l
 pub record Bucketed (f : Point → ℤ) (g : Point → ℕ) (ps : List Point) (xs : List ℤ) : Type 0 where
   pub long : length xs ≡ 16
-  pub bounded : All (λ x. unsigned_abs x ≤ 2305843009213693952) xs
+  pub bounded : AllByRecursion (λ x. unsigned_abs x ≤ 2305843009213693952) xs
   pub at : (l : ℕ) → l < 16 → slice_index_or xs l (pos 0) ≡ coded (tops_by f (λ p. nat_eq (g p) l) ps)
 
 -- the best of the half labels whose bit i is 1, and of those whose bit i is 0
@@ -54,4 +54,4 @@ pub record Gathered (r : Record) (shift : ℕ) (a : List ℤ) (m u v : ℕ) (ps 
   pub u_at : pu ≡ pair_of r shift a m u v u ps
   pub v_held : Held pv
   pub u_held : Held pu
-  pub above : All (λ p. lowest ≤ℤ cross_of r shift a m u v p) ps
+  pub above : AllByRecursion (λ p. lowest ≤ℤ cross_of r shift a m u v p) ps

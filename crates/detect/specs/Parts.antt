@@ -1,6 +1,6 @@
 -- The parts of a quadrant point's doubled metric, over plain numbers.
 use Rattle.std.specs.Prelude.{◌≡◌, ℕ, ◌*◌, ◌/◌, ◌^◌, ◌≤◌, cond, List, length, ℤ, pos, ◌+ℤ◌, ◌-ℤ◌, ◌*ℤ◌, unsigned_abs}
-use Rattle.std.specs.List.{AllByRecursion as All}
+use Rattle.std.specs.List.{AllByRecursion}
 use Rattle.constellation.specs.declared.Point.{Point}
 use Rattle.metric.specs.Exhaustive.{sum_to, label_bit, at_bit}
 use Rattle.observation.specs.declared.Record.{Record}
@@ -44,7 +44,7 @@ pub record Given (shift : ℕ) (a : List ℤ) (m u v : ℕ) : Type 0 where
   pub shift_in : shift ≤ 40
   pub m_in : m ≤ 8
   pub a_long : m ≤ length a
-  pub a_in : All (λ x. unsigned_abs x ≤ 8191) a
+  pub a_in : AllByRecursion (λ x. unsigned_abs x ≤ 8191) a
   pub u_low : 1 ≤ u
   pub u_high : u ≤ m
   pub v_low : 1 ≤ v

@@ -1,7 +1,7 @@
 -- The best doubled metrics over the quadrant points so far, with a low number for none.
 use Rattle.std.specs.Prelude.{◌≡◌, ℕ, ◌+◌, ◌*◌, ◌<◌, ◌≤◌, Bool, true, false, List, [], ◌∷◌, length, ℤ, pos, negsuc, ◌+ℤ◌, ◌-ℤ◌, ◌*ℤ◌, Some, None, Option, ◌==◌, slice_index_or, unsigned_abs}
 use Rattle.std.specs.Int.{int_max}
-use Rattle.std.specs.List.{AllByRecursion as All}
+use Rattle.std.specs.List.{AllByRecursion}
 use Rattle.std.specs.Int.Signed.{shr_z}
 use Rattle.constellation.specs.declared.Point.{Point}
 use Rattle.metric.specs.Exhaustive.{label_bit, greater, clipped}
@@ -63,5 +63,5 @@ pair_of r shift a m u v k ps = (coded (top_of r shift a m u v k true ps), coded 
 -- the pairs of all positions
 pub record Best (r : Record) (shift : ℕ) (a : List ℤ) (m u v : ℕ) (ps : List Point) (t : List (ℤ × ℤ)) : Type 0 where
   pub long : length t ≡ 8
-  pub held : All Held t
+  pub held : AllByRecursion Held t
   pub at : (k : ℕ) → k < m → slice_index_or t k (pos 0, pos 0) ≡ pair_of r shift a m u v (k + 1) ps

@@ -2,7 +2,7 @@
 
 ghost use Rattle.std.specs.Prelude.{◌≡◌, ◌<◌, ◌≤◌, true, false, ◌≢◌, pos, ◌+ℤ◌, slice_index_or, slice_set, unsigned_abs};
 ghost use Rattle.std.specs.Int.{int_max};
-ghost use Rattle.std.specs.List.{AllByRecursion as All};
+ghost use Rattle.std.specs.List.{AllByRecursion};
 ghost use Rattle.metric.specs.Reduced.{absolute};
 ghost use Rattle.observation.specs.Observed.{Measured};
 ghost use Rattle.detect.specs.Parts.{Given, Placed};
@@ -46,7 +46,7 @@ fn noted(b: &mut [i64; 16], code: u8, c: i64)
 
 /// The best of the half labels whose bit i is 1, and of those whose bit i is 0.
 fn halved(b: &[i64; 16], i: u8) -> (i64, i64)
-    requires { (i < 4) × (All (λ x. unsigned_abs x ≤ 2305843009213693952) b.now) }
+    requires { (i < 4) × (AllByRecursion (λ x. unsigned_abs x ≤ 2305843009213693952) b.now) }
     ensures value { result ≡ (over_codes i true b.now 16, over_codes i false b.now 16) }
     ensures held { Held result }
 {
@@ -73,7 +73,7 @@ fn placed(
     pv: (i64, i64),
     pu: (i64, i64),
 ) -> (i64, i64)
-    requires { (m ≤ 8) × (j < m) × (Held pv) × (Held pu) × (All (λ x. unsigned_abs x ≤ 2305843009213693952) lows.now) × (All (λ x. unsigned_abs x ≤ 2305843009213693952) highs.now) }
+    requires { (m ≤ 8) × (j < m) × (Held pv) × (Held pu) × (AllByRecursion (λ x. unsigned_abs x ≤ 2305843009213693952) lows.now) × (AllByRecursion (λ x. unsigned_abs x ≤ 2305843009213693952) highs.now) }
     ensures value { result ≡ place_of m u v lows.now highs.now pv pu j }
     ensures held { Held result }
 {
@@ -99,7 +99,7 @@ pub fn bests(
     shift: u8,
     a: &[i16],
 ) -> [(i64, i64); 8]
-    requires { (All Placed points.now) × (Measured r.now) × (Given shift a.now m u v) × (u ≢ v) }
+    requires { (AllByRecursion Placed points.now) × (Measured r.now) × (Given shift a.now m u v) × (u ≢ v) }
     ensures { Best r.now shift a.now m u v points.now result }
 {
     let mut lows = [LOWEST; 16];

@@ -1,7 +1,7 @@
 //! The doubled metrics of the four points that a quadrant point stands for: one base, and what each sign turns.
 
 ghost use Rattle.std.specs.Prelude.{◌≡◌, ◌+◌, ◌<◌, ◌≤◌, length, pos, ◌+ℤ◌, ◌*ℤ◌, unsigned_abs};
-ghost use Rattle.std.specs.List.{AllByRecursion as All};
+ghost use Rattle.std.specs.List.{AllByRecursion};
 ghost use Rattle.metric.specs.Exhaustive.{label_bit};
 ghost use Rattle.observation.specs.Observed.{Measured};
 ghost use Rattle.detect.specs.Parts.{prior_sum, middle, turn, Turning, Basing, Given, Parted, Placed};
@@ -20,7 +20,7 @@ fn bit_at(label: u8, m: u8, j: u8) -> bool
 
 /// The a priori values of the label's bits that are 1.
 fn prior_sum(label: u8, m: u8, a: &[i16]) -> i64
-    requires { (m ≤ 8) × (m ≤ length a.now) × (All (λ x. unsigned_abs x ≤ 8191) a.now) }
+    requires { (m ≤ 8) × (m ≤ length a.now) × (AllByRecursion (λ x. unsigned_abs x ≤ 8191) a.now) }
     ensures value { result ≡ prior_sum m label a.now m }
     ensures small { unsigned_abs result ≤ 65528 }
 {

@@ -2,7 +2,7 @@
 
 ghost use Rattle.std.specs.Prelude.{◌≡◌, ◌+◌, ◌^◌, ◌≤◌, map, length, pos, ◌-ℤ◌, ◌*ℤ◌, unsigned_abs};
 ghost use Rattle.std.specs.Int.Signed.{shr_z};
-ghost use Rattle.std.specs.List.{range_with_len, AllByRecursion as All};
+ghost use Rattle.std.specs.List.{range_with_len, AllByRecursion};
 ghost use Rattle.constellation.specs.Meaning.{Lawful};
 ghost use Rattle.metric.specs.Exhaustive.{Symbol, clipped as clip};
 ghost use Rattle.metric.specs.Value.{extrinsic_value};
@@ -63,7 +63,7 @@ pub fn extrinsic_values(
     requires measured { Measured observed.now }
     requires shifted { shift ≤ 40 }
     requires known { length priors.now ≡ chart.now.m }
-    requires ranged { All (λ x. unsigned_abs x ≤ 8191) priors.now }
+    requires ranged { AllByRecursion (λ x. unsigned_abs x ≤ 8191) priors.now }
     requires room { length out.old ≡ chart.now.m }
     ensures values { out.new ≡ map (kept_value (chart_meaning chart.now) shift observed.now priors.now) (range_with_len 1 chart.now.m) }
     ensures exhaustive { (s : Symbol) → observed.now ≡ held_of s → out.new ≡ map (extrinsic_value (chart_meaning chart.now) shift s priors.now) (range_with_len 1 chart.now.m) }

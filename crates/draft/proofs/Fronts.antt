@@ -1,6 +1,6 @@
 -- The samples of a vector that passed the test.
 use Rattle.std.proofs.Common.{◌≡◌, ◌≤◌, true, List, ◌++◌, length, drop, ℤ, nat_abs, sym, ◌∙◌, arith}
-use Rattle.std.specs.List.{prefix_len, AllByRecursion as All}
+use Rattle.std.specs.List.{prefix_len, AllByRecursion}
 use Rattle.std.proofs.lemmas.List.{length-append, length-drop}
 use Rattle.std.proofs.lemmas.Int.{ints}
 use Rattle.std.proofs.lemmas.Bool.{and_parts}
@@ -18,7 +18,7 @@ fine_is s h =
     let b = and_parts _ _ h in
     record { re = small s.re b.0; im = small s.im b.1 }
 
-pub all_ranged : (v : List Sample) → prefix_len fine v ≡ length v → All Ranged v
+pub all_ranged : (v : List Sample) → prefix_len fine v ≡ length v → AllByRecursion Ranged v
 all_ranged v h = front_all fine Ranged fine_is v h
 
 -- a vector over the first samples of a reference

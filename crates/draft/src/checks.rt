@@ -1,7 +1,7 @@
 //! What a placing is refused for.
 
 ghost use Rattle.std.specs.Prelude.{◌≡◌, ◌<◌, ◌≤◌, ◌&&◌, length, OnOk, ◌==◌, nat_le, nat_lt};
-ghost use Rattle.std.specs.List.{prefix_len, AllByRecursion as All};
+ghost use Rattle.std.specs.List.{prefix_len, AllByRecursion};
 ghost use Rattle.observation.specs.Observed.{Ranged};
 ghost use Rattle.refusal.specs.declared.Cause.TheVariants.{Antennas, Sample as BadSample, Weight as TooHeavy, Full};
 ghost use Rattle.protocol.specs.Verdicts.{each, need as allow, accepted, up_to};
@@ -61,7 +61,7 @@ fn sound_front(vector: &[Sample]) -> usize
 /// Refused at the first antenna whose sample has a part outside -1023 to 1023, counted from 1.
 pub fn check_samples(vector: &[Sample]) -> Result<(), Refusal>
     ensures reply { result ≡ each fine vector.now BadSample accepted }
-    ensures ranged { OnOk result (All Ranged vector.now) }
+    ensures ranged { OnOk result (AllByRecursion Ranged vector.now) }
 {
     let front = sound_front(vector);
     if front < vector.len() {

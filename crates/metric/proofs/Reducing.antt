@@ -1,7 +1,7 @@
 -- The reduced way's best is the exhaustive one's, doubled.
 use Rattle.std.proofs.Common.{◌≡◌, ℕ, Bool, true, false, cond, eqb, List, [], ◌∷◌, map, ℤ, pos, ◌+ℤ◌, ◌*ℤ◌, neg_ℤ, Some, None, filter, Option, sym, refl, ap, ◌∙◌, ap₂}
 use mathlib.Core.Bool.{beq}
-use Rattle.std.specs.List.{AllByRecursion as All}
+use Rattle.std.specs.List.{AllByRecursion}
 use Rattle.constellation.specs.Meaning.{Meaning}
 use Rattle.constellation.specs.declared.Point.{Point}
 use Rattle.metric.specs.Exhaustive.{Symbol, Corner, all_points, signed, place, label_bit, point_bit, weighed, metric, greater, largest, best}
@@ -53,7 +53,7 @@ module _ (C : Meaning) (clear_at : Clear C) (S : ℕ) (sym' : Symbol) (A : ℕ �
         go true = ap Some (metric-twice p clear)
         go false = refl
 
-    over : (qs : List Point) → All (ClearPoint C) qs → twice (best_in (all_points qs)) ≡ best_over C S sym' A k b qs
+    over : (qs : List Point) → AllByRecursion (ClearPoint C) qs → twice (best_in (all_points qs)) ≡ best_over C S sym' A k b qs
     unfolding best_in best_over quadrant_best twice offered own
     over [] clear = refl
     over (q ∷ qs) clear =

@@ -2,7 +2,7 @@
 use Rattle.std.specs.Prelude.{◌≡◌, ℕ, ◌*◌, ◌≤◌, Bool, true, false, cond, ◌≢◌, List, [], ◌∷◌, ℤ, pos, ◌+ℤ◌, ◌-ℤ◌, ◌*ℤ◌, neg_ℤ, Some, None, Option, ◌==◌, unsigned_abs}
 use Rattle.std.specs.Bool.{beq}
 use Rattle.std.specs.Int.Signed.{shr_z}
-use Rattle.std.specs.List.{AllByRecursion as All}
+use Rattle.std.specs.List.{AllByRecursion}
 use Rattle.constellation.specs.Meaning.{Meaning}
 use Rattle.constellation.specs.declared.Point.{Point}
 use Rattle.metric.specs.Exhaustive.{mapped, Complex, Antenna, Symbol, times, square, signed, label_bit, sum_to, weighed, greater, best, apart, clipped, extrinsic}
@@ -78,7 +78,7 @@ pub record Clear (C : Meaning) : Type 0 where
   pub v_low : 1 ≤ C.v
   pub v_high : C.v ≤ C.m
   pub apart : C.u ≢ C.v
-  pub clear : All (λ q. (label_bit C.m q.label C.u ≡ false) × (label_bit C.m q.label C.v ≡ false)) C.points
+  pub clear : AllByRecursion (λ q. (label_bit C.m q.label C.u ≡ false) × (label_bit C.m q.label C.v ≡ false)) C.points
 
 -- the reduced way finds the exhaustive one's best, doubled
 abbrev pub Reduces : Type 0

@@ -3,7 +3,7 @@
 #![tactic(auto)]
 
 ghost use Rattle.std.specs.Prelude.{◌≡◌, ◌≤◌, [], length};
-ghost use Rattle.std.specs.List.{AllByRecursion as All};
+ghost use Rattle.std.specs.List.{AllByRecursion};
 ghost use Rattle.observation.specs.Observed.{Ranged, Measured, held, symbol_of};
 ghost use Rattle.observation.specs.Joining.{energy_of, product_of, Conjugate, Summed, Room, Joined};
 
@@ -97,8 +97,8 @@ fn joined(before: Record, y: Sample, h: Sample) -> Record
 pub fn observe(y: &[Sample], h: &[Sample], weight: u16) -> Record
     requires alike { length y.now ≡ length h.now }
     requires few { length y.now ≤ 4 }
-    requires y_ranged { All Ranged y.now }
-    requires h_ranged { All Ranged h.now }
+    requires y_ranged { AllByRecursion Ranged y.now }
+    requires h_ranged { AllByRecursion Ranged h.now }
     requires light { weight ≤ 1023 }
     ensures value { result ≡ held (symbol_of y.now h.now weight) }
     ensures small { Measured result }

@@ -1,6 +1,6 @@
 -- Lists of which every element passes a test, and what the test of every element answers.
 use Rattle.std.proofs.Common.{◌≡◌, ℕ, zero, suc, ◌+◌, ◌<◌, Bool, true, false, cond, eqb, List, [], ◌∷◌, ◌++◌, length, get_or, take, drop, set, Err, sym, refl, ap, ◌∙◌, not-suc-le-zero, arith}
-use Rattle.std.specs.List.{prefix_len, AllByRecursion as All}
+use Rattle.std.specs.List.{prefix_len, AllByRecursion}
 use Rattle.std.proofs.lemmas.Bool.{cond-true, cond-false, eq-eqb, ne_eqb, eqb-true}
 use Rattle.refusal.specs.declared.Cause.{Cause}
 use Rattle.protocol.specs.Verdicts.{Verdict, accepted, need, each}
@@ -49,7 +49,7 @@ module _ {X : Type 0} (p : X → Bool) where
   front_at (x ∷ xs) zero d l h = (first (p x) _ _ h).0
   front_at (x ∷ xs) (suc i) d l h = front_at xs i d (omega arith) (first (p x) _ _ h).1
 
-  pub front_all : (P : X → Type 0) → ((x : X) → p x ≡ true → P x) → (xs : List X) → prefix_len p xs ≡ length xs → All P xs
+  pub front_all : (P : X → Type 0) → ((x : X) → p x ≡ true → P x) → (xs : List X) → prefix_len p xs ≡ length xs → AllByRecursion P xs
   front_all P f [] h = tt
   front_all P f (x ∷ xs) h = (f x (first (p x) _ _ h).0, front_all P f xs (first (p x) _ _ h).1)
 

@@ -1,6 +1,6 @@
 -- Telling symbol after symbol spreads a list of values, m to a symbol.
 use Rattle.std.proofs.Common.{◌≡◌, ℕ, zero, suc, ◌+◌, ◌-◌, ◌*◌, ◌<◌, ◌≤◌, true, false, List, [], ◌∷◌, map, length, take, drop, ℤ, nat_abs, Ok, sym, refl, ap, ◌∙◌, ap₂, suc-mul, add_comm, zero-mul, add-one, arith}
-use Rattle.std.specs.List.{prefix_len, AllByRecursion as All}
+use Rattle.std.specs.List.{prefix_len, AllByRecursion}
 use Rattle.std.proofs.lemmas.List.{drop-drop, length-drop, length-take-le}
 use Rattle.std.proofs.lemmas.Bool.{eq-eqb, le-leb}
 use Rattle.std.proofs.lemmas.Bool.Decides.{nat_tests}
@@ -99,7 +99,7 @@ told-stands k s (z ∷ zs) h =
     ∙ ap (λ (ys : List (Placed Record)). with_symbols (image held s) ys) (spread-image held s.meaning.m s.symbols (z ∷ zs))
 
 -- values within the range of a file are inside that of a burst
-pub all_inside : (zs : List ℤ) → All (λ z. nat_abs z ≤ 8191) zs → prefix_len inside zs ≡ length zs
+pub all_inside : (zs : List ℤ) → AllByRecursion (λ z. nat_abs z ≤ 8191) zs → prefix_len inside zs ≡ length zs
 all_inside [] h = refl
 all_inside (z ∷ zs) h =
     let t : inside z ≡ true = inside-within z ∙ le-leb (nat_abs z) 8191 h.0 in

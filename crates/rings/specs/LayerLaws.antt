@@ -1,6 +1,6 @@
 -- A layer keeps the laws.
 use Rattle.std.proofs.Common.{◌≡◌, ℕ, zero, suc, ◌+◌, ◌*◌, ◌/◌, ◌%◌, ◌^◌, ◌<◌, ◌≤◌, Bool, true, cond, ◌&&◌, eqb, ltb, List, [], ◌∷◌, ◌++◌, map, length, get_or, sym, refl, ap, ◌∙◌, subst, not-suc-le-zero, suc-mul, mul_comm, mul-pos, mul-suc, arith, pow_mono}
-use Rattle.std.specs.List.{flat_map, AllByRecursion as All}
+use Rattle.std.specs.List.{flat_map, AllByRecursion}
 use Rattle.std.proofs.lemmas.Nat.{pow_pos, mul-add-lt, mod_below, shr_below, shr_split, div-add-mod', div_below}
 use Rattle.std.proofs.ByRecursion.{All-get_or, All-append, All-map, All-weaker}
 use Rattle.std.proofs.lemmas.List.{get_or_append_left, get_or-append-add, length-append, length-map, get_or-map}
@@ -40,7 +40,7 @@ Narrow k t = (t.code < 2 ^ k) × (t.scale < 2 ^ 12) × (t.added < 2 ^ 24)
 -- what a list of copies keeps, with codes of k bits
 pub record Fair (k : ℕ) (ts : List Copied) : Type 0 where
   pub some : 1 ≤ length ts
-  pub narrow : All (Narrow k) ts
+  pub narrow : AllByRecursion (Narrow k) ts
   -- where a code is found
   pub found : (g : ℕ) → g < 2 ^ k → (a : ℕ) × (a < length ts) × ((get_or ts a nothing).code ≡ g)
 
@@ -48,7 +48,7 @@ abbrev narrowb : ℕ → List Copied → Bool
 narrowb k [] = true
 narrowb k (t ∷ ts) = (ltb t.code (2 ^ k) && (ltb t.scale (2 ^ 12) && ltb t.added (2 ^ 24))) && narrowb k ts
 
-narrow_from : (k : ℕ) (ts : List Copied) → narrowb k ts ≡ true → All (Narrow k) ts
+narrow_from : (k : ℕ) (ts : List Copied) → narrowb k ts ≡ true → AllByRecursion (Narrow k) ts
 narrow_from k [] h = tt
 narrow_from k (t ∷ ts) h =
     let a = and_parts (ltb t.code (2 ^ k) && (ltb t.scale (2 ^ 12) && ltb t.added (2 ^ 24))) _ h in
@@ -89,7 +89,7 @@ module _ (k : ℕ) (ts : List Copied) (F : Fair k ts) (M : Meaning) (L : Lawful 
     v_zero = bit_kept M.m k M.v p.label t.code L.v_most s ∙ G.v_zero;
   }
 
-  good_spread : (rs : List Copied) → All (Narrow k) rs → All (Good (M.m + k) M.u M.v) (spread k rs M.points)
+  good_spread : (rs : List Copied) → AllByRecursion (Narrow k) rs → AllByRecursion (Good (M.m + k) M.u M.v) (spread k rs M.points)
   good_spread [] n = tt
   good_spread (t ∷ rs) n =
       All-append _ (map (copied k t) M.points) _

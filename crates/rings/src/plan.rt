@@ -1,8 +1,8 @@
 //! Which copies of the points below a layer makes.
 
 ghost use Rattle.std.specs.Prelude.{◌≡◌, ◌+◌, ◌*◌, ◌%◌, ◌^◌, ◌<◌, ◌≤◌, length, slice_index_or};
-ghost use Rattle.constellation.specs.Gray.{gray as grayOf};
-ghost use Rattle.rings.specs.Copies.{copies as copiesOf, bits as bits_of, ring as ringOf, nothing};
+ghost use Rattle.constellation.specs.Gray.{gray as gray_of};
+ghost use Rattle.rings.specs.Copies.{copies as copies_of, bits as bits_of, ring as ring_of, nothing};
 ghost use Rattle.rings.specs.Made.{ring_plan, ratio_plan};
 
 /// One copy of the points below.
@@ -27,13 +27,13 @@ pub enum Plan {
 
 // The code in which neighbours differ in one bit.
 fn gray(number: u8) -> u8
-    ensures { result ≡ grayOf number }
+    ensures { result ≡ gray_of number }
 {
     number ^ (number / 2)
 }
 
 fn ring(number: u8, scale: u32) -> Copied
-    ensures { result ≡ ringOf number scale }
+    ensures { result ≡ ring_of number scale }
 {
     Copied {
         scale,
@@ -45,7 +45,7 @@ fn ring(number: u8, scale: u32) -> Copied
 // One of n ratios; `shifted` is its exponent plus n.
 fn ratio(n: u8, shifted: u8, scale: u32) -> Copied
     requires { (0 < n) × (scale < 2 ^ 12) }
-    ensures { result ≡ record { scale = scale; code = grayOf (shifted % n); added = scale * scale } }
+    ensures { result ≡ record { scale = scale; code = gray_of (shifted % n); added = scale * scale } }
 {
     Copied {
         scale,
@@ -90,7 +90,7 @@ impl Plan {
 
     /// How many copies there are.
     pub fn copies(self) -> usize
-        ensures value { result ≡ length (copiesOf self) }
+        ensures value { result ≡ length (copies_of self) }
         ensures least { 1 ≤ result }
         ensures most { result ≤ 7 }
     {
@@ -104,8 +104,8 @@ impl Plan {
 
     /// The copy of an index.
     pub fn copy(self, index: usize) -> Copied
-        requires { index < length (copiesOf self) }
-        ensures { result ≡ slice_index_or (copiesOf self) index nothing }
+        requires { index < length (copies_of self) }
+        ensures { result ≡ slice_index_or (copies_of self) index nothing }
     {
         match self {
             Plan::TwoRings => match index {

@@ -1,6 +1,6 @@
 -- A burst over the constellation in another bit order: its state is the first burst's, moved, all along a run.
 use Rattle.std.proofs.Common.{◌≡◌, ℕ, zero, suc, ◌+◌, ◌-◌, ◌*◌, ◌<◌, ◌≤◌, Bool, true, false, cond, not, eqb, leb, List, [], ◌∷◌, map, length, get_or, drop, replicate, ℤ, pos, ◌+ℤ◌, Ok, Err, sym, refl, ap, ◌∙◌, subst, ap₂, suc-mul, arith, length-drop, length-take}
-use Rattle.std.specs.List.{AllZip, prefix_len, AllByRecursion as All}
+use Rattle.std.specs.List.{AllZip, prefix_len, AllByRecursion}
 use Rattle.std.proofs.lemmas.List.{length-map, length-replicate}
 use Rattle.std.proofs.lemmas.Bool.{eqb-true, eq-eqb, le-leb, and_from}
 use Rattle.refusal.specs.declared.Cause.{Cause}
@@ -92,7 +92,7 @@ module _ (ps : List ℕ) where
   record Ready (s : State Symbol) : Type 0 where
     lawful : Lawful s.meaning
     order : permutes s.meaning.m ps ≡ true
-    sound : All (λ y. length y.priors ≡ s.meaning.m) s.symbols
+    sound : AllByRecursion (λ y. length y.priors ≡ s.meaning.m) s.symbols
 
   size-moved : (s : State Symbol) → length (moved_state s).symbols ≡ length s.symbols
   size-moved s = length-map s.symbols (moved_symbol ps)
@@ -120,12 +120,12 @@ module _ (ps : List ℕ) where
   moved-after s (decide n) r e = refl
 
   -- ---- what stays so
-  all_at : (P : Placed Symbol → Type 0) (f : Placed Symbol → Placed Symbol) (i : ℕ) (ys : List (Placed Symbol)) → ((y : Placed Symbol) → P y → P (f y)) → All P ys → All P (at_symbol f i ys)
+  all_at : (P : Placed Symbol → Type 0) (f : Placed Symbol → Placed Symbol) (i : ℕ) (ys : List (Placed Symbol)) → ((y : Placed Symbol) → P y → P (f y)) → AllByRecursion P ys → AllByRecursion P (at_symbol f i ys)
   all_at P f i [] k h = tt
   all_at P f zero (y ∷ ys) k h = (k y h.0, h.1)
   all_at P f (suc i) (y ∷ ys) k h = (h.0, all_at P f i ys k h.1)
 
-  all_spread : (m : ℕ) (ys : List (Placed Symbol)) (zs : List ℤ) → length zs ≡ length ys * m → All (λ y. length y.priors ≡ m) (spread m ys zs)
+  all_spread : (m : ℕ) (ys : List (Placed Symbol)) (zs : List ℤ) → length zs ≡ length ys * m → AllByRecursion (λ y. length y.priors ≡ m) (spread m ys zs)
   all_spread m [] zs l = tt
   all_spread m (y ∷ ys) zs l =
       (simp length-take (omega (arith, suc-mul (length ys) m)), all_spread m ys (drop m zs) (simp length-drop (omega (arith, suc-mul (length ys) m))))
@@ -159,7 +159,7 @@ module _ (ps : List ℕ) where
   -- ---- what a call yields
   -- what g has of each moved symbol is what h has of the symbol
   of_moved : {Z : Type 0} (g h : Placed Symbol → Z) (d : Z) (m i : ℕ) (ys : List (Placed Symbol)) → ((y : Placed Symbol) → length y.priors ≡ m → g (moved_symbol ps y) ≡ h y) →
-      All (λ y. length y.priors ≡ m) ys → of_symbol g d i (map (moved_symbol ps) ys) ≡ of_symbol h d i ys
+      AllByRecursion (λ y. length y.priors ≡ m) ys → of_symbol g d i (map (moved_symbol ps) ys) ≡ of_symbol h d i ys
   of_moved g h d m i [] e a = refl
   of_moved g h d m zero (y ∷ ys) e a = e y a.0
   of_moved g h d m (suc i) (y ∷ ys) e a = of_moved g h d m i ys e a.1
@@ -265,7 +265,7 @@ closed-moved ps o O =
     go [] = refl
     go (x ∷ xs) = ap₂ (λ zs (ys : List (Placed Symbol)). record { symbol = x; priors = zs } ∷ ys) (sym (permute_zeros o.meaning.m ps O)) (go xs)
 
-zeros_sound : (m : ℕ) (xs : List Symbol) → All (λ (y : Placed Symbol). length y.priors ≡ m) (map (λ x. record { symbol = x; priors = replicate m (pos 0) }) xs)
+zeros_sound : (m : ℕ) (xs : List Symbol) → AllByRecursion (λ (y : Placed Symbol). length y.priors ≡ m) (map (λ x. record { symbol = x; priors = replicate m (pos 0) }) xs)
 zeros_sound m [] = tt
 zeros_sound m (x ∷ xs) = (length-replicate m (pos 0), zeros_sound m xs)
 

@@ -1,6 +1,6 @@
 -- What another order of the positions keeps.
 use Rattle.std.proofs.Common.{◌≡◌, ℕ, zero, suc, ◌+◌, ◌-◌, ◌*◌, ◌<◌, ◌≤◌, Bool, true, false, cond, eqb, leb, List, [], ◌∷◌, ◌++◌, map, length, get_or, take, drop, replicate, ℤ, pos, sym, refl, ap, ◌∙◌, subst, ap₂, suc-mul, zero-mul, arith, length-append, length-drop, length-take}
-use Rattle.std.specs.List.{prefix_len, AllByRecursion as All}
+use Rattle.std.specs.List.{prefix_len, AllByRecursion}
 use Rattle.std.proofs.ByRecursion.{All-map, All-weaker, All-get_or, All-from_get_or, All-append, All-take, All-drop}
 use Rattle.std.proofs.lemmas.List.{length-map, get_or-map, length-replicate, get_or-replicate, ext_get_or, take-append-drop, take_at, drop_at, nil_from_length}
 use Rattle.std.proofs.lemmas.Bool.{eqb-true, eqb-false, eq-eqb, ne_eqb, le-leb, and_from}
@@ -16,7 +16,7 @@ use Rattle.runs.proofs.Verdicts.{up_to_lem}
 
 -- ---- every value is in range
 abbrev pub In : List ℤ → Type 0
-In zs = All (λ z. inside z ≡ true) zs
+In zs = AllByRecursion (λ z. inside z ≡ true) zs
 
 all_in : (zs : List ℤ) → prefix_len inside zs ≡ length zs → In zs
 all_in [] e = tt
@@ -55,12 +55,12 @@ module _ (m : ℕ) (ps : List ℕ) (O : Order m ps) where
   listed : (i : ℕ) → i < length ps → (1 ≤ get_or ps i 0) × (get_or ps i 0 ≤ m)
   listed i h = let l : i < m = omega (arith, O.size) in (O.least i l, O.most i l)
 
-  there : (P : ℤ → Type 0) (zs : List ℤ) → length zs ≡ m → All P zs → All P (permute ps zs)
+  there : (P : ℤ → Type 0) (zs : List ℤ) → length zs ≡ m → AllByRecursion P zs → AllByRecursion P (permute ps zs)
   there P zs l h = All-map P (λ p. get_or zs (p - 1) (pos 0)) ps
       (All-weaker (λ p. (1 ≤ p) × (p ≤ m)) (λ p. P (get_or zs (p - 1) (pos 0))) (λ p w. All-get_or P zs (p - 1) (pos 0) (omega arith) h) ps
       (All-from_get_or (λ p. (1 ≤ p) × (p ≤ m)) ps 0 listed))
 
-  back : (P : ℤ → Type 0) (zs : List ℤ) → length zs ≡ m → All P (permute ps zs) → All P zs
+  back : (P : ℤ → Type 0) (zs : List ℤ) → length zs ≡ m → AllByRecursion P (permute ps zs) → AllByRecursion P zs
   back P zs l h = All-from_get_or P zs (pos 0) λ i hi.
       let o = position_is (suc i) (omega arith) (omega arith) in
       let j : get_or ps (position (suc i) ps - 1) 0 - 1 ≡ i = omega (arith, o.2) in

@@ -1,7 +1,7 @@
 -- The rows of a sheet, one symbol after another.
 use Rattle.std.proofs.Common.{◌≡◌, ℕ, zero, suc, ◌+◌, ◌-◌, ◌*◌, ◌<◌, ◌≤◌, true, List, [], ◌∷◌, ◌++◌, map, length, get_or, take, drop, ℤ, pos, negsuc, ◌+ℤ◌, nat_abs, sym, refl, ap, ◌∙◌, ap₂, append_assoc, append-nil, not-suc-le-zero, suc-mul, mul-le-mul, arith}
 use lib.Signed.{le_z}
-use Rattle.std.specs.List.{flat_map, prefix_len, AllByRecursion as All, range_with_len}
+use Rattle.std.specs.List.{flat_map, prefix_len, AllByRecursion, range_with_len}
 use Rattle.std.proofs.lemmas.List.FromFn.{length-map-range_with_len, get_or-map-range_with_len}
 use Rattle.std.proofs.lemmas.List.{length-append, length-take-le, drop-drop, take_all, drop_all, get_or-take, get_or-drop, get_or_append_left}
 use Rattle.std.proofs.lemmas.Int.{ints}
@@ -19,7 +19,7 @@ in_size z h =
     let p = and_parts (le_z (negsuc 8190) z) (le_z z (pos 8191)) h in
     grind (arith, ints)
 
-pub all_in_size : (zs : List ℤ) → prefix_len inside zs ≡ length zs → All (λ x. nat_abs x ≤ 8191) zs
+pub all_in_size : (zs : List ℤ) → prefix_len inside zs ≡ length zs → AllByRecursion (λ x. nat_abs x ≤ 8191) zs
 all_in_size zs h = front_all inside (λ x. nat_abs x ≤ 8191) in_size zs h
 
 -- one symbol more

@@ -1,6 +1,6 @@
 -- From one step to whole runs: what each step keeps, of one machine or of two side by side, and a program's loop that makes the calls of a list.
 use Rattle.std.proofs.Common.{◌≡◌, ℕ, ◌+◌, ◌<◌, ◌≤◌, List, [], ◌∷◌, ◌++◌, map, length, get_or, take, drop, set, sym, ap, ◌∙◌, ap₂, append_assoc, append-nil}
-use Rattle.std.specs.List.{AllZip, AllByRecursion as All}
+use Rattle.std.specs.List.{AllZip, AllByRecursion}
 use Rattle.std.proofs.lemmas.List.{drop_more, drop_all, take_more_set, take_all}
 use Rattle.trace.specs.Trace.{Moment, replies, moment, run, final}
 
@@ -9,7 +9,7 @@ module _ {S C R : Type 0} (step : S → C → S × R) (P : S → Type 0) (Q : Mo
     (one : (s : S) (c : C) → P s → P (step s c).0 × Q (moment step s c))
   where
     -- Q holds all along a run
-    pub always : (cs : List C) (s : S) → P s → All Q (run step s cs)
+    pub always : (cs : List C) (s : S) → P s → AllByRecursion Q (run step s cs)
     always [] s p = tt
     always (c ∷ cs) s p = let h = one s c p in (h.1, always cs (step s c).0 h.0)
 

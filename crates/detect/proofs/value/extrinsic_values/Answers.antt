@@ -1,6 +1,6 @@
 use Rattle.detect.proofs.value.extrinsic_values.Goals as goal
 use Rattle.std.proofs.Common.{◌≡◌, ℕ, zero, suc, ◌+◌, ◌^◌, ◌<◌, ◌≤◌, ◌≢◌, List, ◌∷◌, map, length, get_or, set, ℤ, pos, ◌-ℤ◌, nat_abs, refl, ap, ◌∙◌, add-one, arith, get_or-set_other, get_or-set_same, w16, w64, SFits, to_z, of_z, below_more}
-use Rattle.std.specs.List.{range_with_len, AllByRecursion as All}
+use Rattle.std.specs.List.{range_with_len, AllByRecursion}
 use Rattle.std.proofs.lemmas.Int.{to_z-of_z}
 use Rattle.std.proofs.ByRecursion.{All-get_or, All-weaker}
 use Rattle.std.proofs.lemmas.List.FromFn.{fill_by_all}
@@ -18,10 +18,10 @@ use Rattle.detect.proofs.Linking.{kept_is}
 abbrev Small : ℤ → Type 0
 Small x = nat_abs x ≤ 8191
 
-placed : (M : Meaning) → Lawful M → All Placed M.points
+placed : (M : Meaning) → Lawful M → AllByRecursion Placed M.points
 placed M L = All-weaker (Good M.m M.u M.v) Placed (λ p g. record { x = g.x_most; y = g.y_most; e = g.e_least }) M.points L.good
 
-given_by : {shift : ℕ} {a : List ℤ} (M : Meaning) → Lawful M → shift ≤ 40 → length a ≡ M.m → All Small a → Given shift a M.m M.u M.v
+given_by : {shift : ℕ} {a : List ℤ} (M : Meaning) → Lawful M → shift ≤ 40 → length a ≡ M.m → AllByRecursion Small a → Given shift a M.m M.u M.v
 given_by {a = a} M L h e k = record {
   shift_in = h;
   m_in = L.m_most;
@@ -38,10 +38,10 @@ bests-best-requires c =
     let M = chart_meaning c.args.chart.now in
     (placed M c.requires.lawful, c.requires.measured, given_by M c.requires.lawful c.requires.shifted c.requires.known c.requires.ranged, c.requires.lawful.apart)
 
-held_at : {m : ℕ} (t : List (ℤ × ℤ)) (k : ℕ) → length t ≡ 8 → k < m → m ≤ 8 → All Held t → Held (get_or t k (pos 0, pos 0))
+held_at : {m : ℕ} (t : List (ℤ × ℤ)) (k : ℕ) → length t ≡ 8 → k < m → m ≤ 8 → AllByRecursion Held t → Held (get_or t k (pos 0, pos 0))
 held_at t k e h l all = All-get_or Held t k (pos 0, pos 0) (omega arith) all
 
-value_at : {m : ℕ} (a : List ℤ) (k : ℕ) → k < m → length a ≡ m → All Small a → Small (get_or a k (pos 0))
+value_at : {m : ℕ} (a : List ℤ) (k : ℕ) → k < m → length a ≡ m → AllByRecursion Small a → Small (get_or a k (pos 0))
 value_at a k h e all = All-get_or Small a k (pos 0) (omega arith) all
 
 pub valued-requires : goal.valued-requires
