@@ -13,10 +13,11 @@ use Rattle.protocol.specs.Stands.{recorded, erased_symbol, erased_record}
 use Rattle.protocol.proofs.Fronts.{passed}
 use Rattle.protocol.proofs.Images.{place-image, closed-image, outline-image, leaves-image}
 use Rattle.draft.specs.Drafted as drafted
-use Rattle.table.specs.Kept.{View, kept, outlined, fresh, tell_left, answer_left, withdraw_left, erase_left, returned}
+use Rattle.table.specs.Kept.{View, view, kept, outlined, fresh, tell_left, answer_left, withdraw_left, erase_left, returned}
+use Rattle.table.specs.declared.table.Table.{Table}
 use Rattle.table.specs.declared.turn.Turn.{Turn}
 use Rattle.table.proofs.Pairs.{length-paired, paired-told, paired_all, paired-set, paired-fresh}
-use Rattle.burst.specs.Public.{PlacedBy, ClosedBy, Called, Answered}
+use Rattle.burst.specs.Public.{closed_kept, PlacedBy, ClosedBy, Called, Answered}
 
 -- what a placing leaves
 pub placed_by : (M : Meaning) (v w : drafted.View) (n : ℕ) (p : Placing) (r : Verdict) → length v.records ≡ n
@@ -83,6 +84,17 @@ module _ (M : Meaning) (v : View) (W : Whole v) where
         );
       }
 
+  pub withdrawn_left : (b n : ℕ) (r : Verdict) → kept M (withdraw_left r v) ≡ leaves erased_record r (kept M v) (withdraw b n)
+  withdrawn_left b n (Err e) = refl
+  withdrawn_left b n (Ok a) = refl
+
+  pub withdraw_called : (b n : ℕ) (r : Verdict) (w : View) → r ≡ verdict (outlined M.m v) (withdraw b n) → w ≡ withdraw_left r v → Called (kept M v) (withdraw b n) r (kept M w)
+  withdraw_called b n r w e f = called (withdraw b n) r w e (ap (kept M) f ∙ withdrawn_left b n r)
+
+-- a withdrawing of the table's is one of the burst's
+pub withdraw_said : (M : Meaning) (t u : Table) (b n : ℕ) (r : Verdict) → r ≡ verdict (outlined 0 (view t)) (withdraw b n) → view u ≡ withdraw_left r (view t) → Called (closed_kept M t) (withdraw b n) r (closed_kept M u)
+withdraw_said M t u b n r e f = withdraw_called M (view t) (record { few = t.few; whole = t.whole; wide = t.wide }) b n r (view u) e f
+
 module _ (M : Meaning) (small : M.m ≤ 8) (v : View) (W : Whole v) where
   ready : length (take v.len v.records) * M.m ≤ length v.priors
   ready =
@@ -115,10 +127,6 @@ module _ (M : Meaning) (small : M.m ≤ 8) (v : View) (W : Whole v) where
       ap (λ ys. record { meaning = M; number = v.number; shift = v.shift; symbols = ys; given = v.given; out = false })
       (paired_all M.m (take v.len v.records) zs (drop (0 + length zs) v.priors) v.priors e)
 
-  pub withdrawn_left : (b n : ℕ) (r : Verdict) → kept M (withdraw_left r v) ≡ leaves erased_record r (kept M v) (withdraw b n)
-  withdrawn_left b n (Err e) = refl
-  withdrawn_left b n (Ok a) = refl
-
   pub erased_left : (i : ℕ) (r : Verdict) → r ≡ verdict (outlined M.m v) (erase i) → kept M (erase_left r v i) ≡ leaves erased_record r (kept M v) (erase i)
   erased_left i (Err e) h = refl
   erased_left i (Ok a) h =
@@ -139,9 +147,6 @@ module _ (M : Meaning) (small : M.m ≤ 8) (v : View) (W : Whole v) where
 
   pub erase_called : (i : ℕ) (r : Verdict) (w : View) → r ≡ verdict (outlined M.m v) (erase i) → w ≡ erase_left r v i → Called (kept M v) (erase i) r (kept M w)
   erase_called i r w e f = called M v W (erase i) r w e (ap (kept M) f ∙ erased_left i r e)
-
-  pub withdraw_called : (b n : ℕ) (r : Verdict) (w : View) → r ≡ verdict (outlined M.m v) (withdraw b n) → w ≡ withdraw_left r v → Called (kept M v) (withdraw b n) r (kept M w)
-  withdraw_called b n r w e f = called M v W (withdraw b n) r w e (ap (kept M) f ∙ withdrawn_left b n r)
 
   pub answer_called : (m : ℕ) (t : Turn) (zs : List ℤ) (r : Result (Unit {0}) (Turn × Refusal)) (w : View) → m ≡ M.m
       → r ≡ returned (verdict (outlined m v) (answer t.burst t.number zs)) t → w ≡ answer_left (verdict (outlined m v) (answer t.burst t.number zs)) v zs → Answered (kept M v) t zs r (kept M w)

@@ -42,6 +42,7 @@ impl<C: Constellation> Burst<C> {
     }
 
     /// Ends a turn and leaves the values. The turn in hand is spent, even where it is refused as foreign.
+    #[tactic(auto, using(crate::proofs::Lifting::withdraw_said))]
     pub fn withdraw(&mut self, turn: Turn) -> Result<(), Refusal>
         ensures withdrawn { Called (closed_kept (C.meaning self.old.c) self.old.table) (withdrawing turn.burst turn.number) result (closed_kept (C.meaning self.old.c) self.new.table) }
         ensures same { self.new.c ≡ self.old.c }

@@ -1,5 +1,5 @@
 -- What a constellation means: the number of bits of a label, the positions of the two sign bits, and the points of the first quadrant.
-use Rattle.std.specs.Prelude.{◌≡◌, ℕ, ◌-◌, ◌/◌, ◌%◌, ◌^◌, ◌<◌, ◌≤◌, min, List, length, get_or, slice_index_or}
+use Rattle.std.specs.Prelude.{◌≡◌, ℕ, ◌-◌, ◌/◌, ◌%◌, ◌^◌, ◌<◌, ◌≤◌, min, List, length, slice_index_or}
 use Rattle.std.specs.List.{AllByRecursion}
 use Rattle.constellation.specs.declared.Point.{Point}
 
@@ -39,7 +39,7 @@ pub record Good (m u v : ℕ) (p : Point) : Type 0 where
 
 -- some point carries the label l
 abbrev pub Carried : List Point → ℕ → Type 0
-Carried ps l = (k : ℕ) × (k < length ps) × ((get_or ps k origin).label ≡ l)
+Carried ps l = (k : ℕ) × (k < length ps) × ((slice_index_or ps k origin).label ≡ l)
 
 -- the laws of every constellation
 pub record Lawful (M : Meaning) : Type 0 where

@@ -1,5 +1,5 @@
 -- A constellation whose labels have their bits in another order. A bit order lists, for each new position, the old position whose bit it carries.
-use Rattle.std.specs.Prelude.{ℕ, zero, suc, ◌+◌, ◌*◌, ◌^◌, Bool, true, cond, ◌&&◌, leb, List, [], ◌∷◌, map, length, take, ◌==◌, nat_le, slice_index}
+use Rattle.std.specs.Prelude.{ℕ, zero, suc, ◌+◌, ◌*◌, ◌^◌, Bool, true, cond, ◌&&◌, List, [], ◌∷◌, map, length, take, ◌==◌, nat_le, slice_index}
 use Rattle.constellation.specs.Meaning.{Meaning, bit}
 use Rattle.constellation.specs.declared.Point.{Point}
 
@@ -20,7 +20,7 @@ each f (suc n) = f n && each f n
 
 -- each number from 1 to m stands in the list
 abbrev pub whole : ℕ → List ℕ → Bool
-whole m ps = each (λ k. leb (position (k + 1) ps) m) m
+whole m ps = each (λ k. nat_le (position (k + 1) ps) m) m
 
 -- each place holds a number from 1 to m, for the first time
 abbrev pub fresh : ℕ → List ℕ → ℕ → Bool

@@ -1,4 +1,4 @@
--- The laws of the values that leave the detector. All that looks into the definition of `extrinsicValue` stands here.
+-- The laws of the values that leave the detector. All that looks into the definition of `extrinsic_value` stands here.
 use Rattle.std.proofs.Common.{◌≡◌, ℕ, zero, suc, ◌-◌, ◌*◌, ◌^◌, ◌<◌, ◌≤◌, true, false, cond, eqb, ◌≢◌, List, [], ◌∷◌, map, get_or, ℤ, pos, ◌+ℤ◌, ◌-ℤ◌, ◌*ℤ◌, nat_abs, Some, None, Option, sym, refl, ap, ◌∙◌, ap₂, inl, inr, arith, pow_pos}
 use lib.Signed.{lt_z, shr_z}
 use Rattle.std.specs.List.{AllZip}

@@ -1,5 +1,5 @@
 -- The laws of the values that leave the detector, in terms of lists of a priori values.
-use Rattle.std.specs.Prelude.{◌≡◌, ℕ, ◌+◌, ◌-◌, ◌<◌, ◌≤◌, true, cond, ◌≢◌, List, [], ◌∷◌, map, length, get_or, ℤ, pos, ◌-ℤ◌, Some, ◌==◌, slice_index, slice_index_or, unsigned_abs}
+use Rattle.std.specs.Prelude.{◌≡◌, ℕ, ◌+◌, ◌-◌, ◌<◌, ◌≤◌, true, cond, ◌≢◌, List, [], ◌∷◌, map, length, ℤ, pos, ◌-ℤ◌, Some, ◌==◌, slice_index, slice_index_or, unsigned_abs}
 use Rattle.constellation.specs.Meaning.{Meaning, Lawful}
 use Rattle.constellation.specs.Ordered.{permutes, shuffled}
 use Rattle.metric.specs.Exhaustive.{Symbol, extrinsic}
@@ -17,7 +17,7 @@ away k (x ∷ xs) (y ∷ ys) = cond (k == 1) 0 (dist x y) + away (k - 1) xs ys
 
 -- the a priori values in another bit order: position j gets what stood at the j-th listed position
 abbrev pub permute : List ℕ → List ℤ → List ℤ
-permute ps zs = map (λ p. get_or zs (p - 1) (pos 0)) ps
+permute ps zs = map (λ p. slice_index_or zs (p - 1) (pos 0)) ps
 
 -- over a lawful constellation each position has an extrinsic value: the maxima are never over no points
 abbrev pub Exists : Type 0

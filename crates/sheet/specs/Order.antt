@@ -1,5 +1,5 @@
 -- A table of rows and columns, stored row after row, and the same elements column after column.
-use Rattle.std.specs.Prelude.{◌≡◌, ℕ, ◌+◌, ◌*◌, ◌/◌, ◌%◌, ◌<◌, ◌≤◌, List, [], ◌∷◌, map, length, get_or, slice_index_or}
+use Rattle.std.specs.Prelude.{◌≡◌, ℕ, ◌+◌, ◌*◌, ◌/◌, ◌%◌, ◌<◌, ◌≤◌, List, [], ◌∷◌, map, length, slice_index_or}
 use Rattle.std.specs.List.{range_with_len}
 
 -- the element that lies at place k column after column: column k / rows, row k % rows. Where it is stored row after row
@@ -9,7 +9,7 @@ stored rows columns k = (k % rows) * columns + k / rows
 -- the list whose element k is the element f k of xs
 abbrev pub arranged : {X : Type 0} → (ℕ → ℕ) → List X → List X
 arranged f [] = []
-arranged f (x ∷ xs) = map (λ k. get_or (x ∷ xs) (f k) x) (range_with_len 0 (length (x ∷ xs)))
+arranged f (x ∷ xs) = map (λ k. slice_index_or (x ∷ xs) (f k) x) (range_with_len 0 (length (x ∷ xs)))
 
 -- column after column, from row after row
 abbrev pub interleaved : {X : Type 0} → ℕ → ℕ → List X → List X
