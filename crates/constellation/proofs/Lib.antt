@@ -4,3 +4,4 @@ pub mod Reorder
 pub mod OrderLaws
 pub mod Signs
 pub mod Points
+pub mod Codes

@@ -5,6 +5,12 @@
 ghost use Rattle.std.specs.Prelude.{◌≡◌, ℕ, length};
 ghost use Rattle.constellation.specs.Meaning.{Meaning, Lawful, Good, nth};
 
+mod label;
+mod numbering;
+
+pub use crate::label::{bit_at, gray};
+pub use crate::numbering::place;
+
 /// A point of the first quadrant. It stands for the four points (±x, ±y).
 #[derive(Clone, Copy, PartialEq, Eq, Debug)]
 pub struct Point {

@@ -8,14 +8,24 @@ ghost use Rattle.observation.specs.Observed.{Ranged, Measured, held, symbol_of};
 ghost use Rattle.observation.specs.Joining.{energy_of, product_of, Conjugate, Summed, Room, Joined};
 
 /// A complex number as a receiver gives it, each part from -1023 to 1023.
-#[derive(Clone, Copy, PartialEq, Eq, Debug)]
+#[derive(Clone, Copy, PartialEq, Eq, Debug, Default)]
 pub struct Sample {
     pub re: i16,
     pub im: i16,
 }
 
+/// The real part, then the imaginary one.
+impl From<(i16, i16)> for Sample {
+    ghost from_gives = { λ p s. s ≡ record { re = p.0; im = p.1 } };
+
+    fn from(pair: (i16, i16)) -> Sample {
+        let (re, im) = pair;
+        Sample { re, im }
+    }
+}
+
 /// What is kept of a symbol. z is the sum over the antennas of y times the conjugate of h; the energies are |y|² and |h|².
-#[derive(Clone, Copy, PartialEq, Eq, Debug)]
+#[derive(Clone, Copy, PartialEq, Eq, Debug, Default)]
 pub struct Record {
     pub z_re: i32,
     pub z_im: i32,
