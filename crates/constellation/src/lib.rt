@@ -12,7 +12,7 @@ pub use crate::label::{bit_at, gray};
 pub use crate::numbering::place;
 
 /// A point of the first quadrant. It stands for the four points (±x, ±y).
-#[derive(Clone, Copy, PartialEq, Eq, Debug)]
+#[derive(Clone, Copy, PartialEq, Eq, Debug, Default)]
 pub struct Point {
     pub x: u16,
     pub y: u16,
