@@ -1,3 +1,4 @@
 pub mod Observed
 pub mod Joining
 pub mod Sizes
+pub mod Shifts

@@ -7,6 +7,10 @@ ghost use Rattle.std.specs.List.{AllByRecursion};
 ghost use Rattle.observation.specs.Observed.{Ranged, Measured, held, symbol_of};
 ghost use Rattle.observation.specs.Joining.{energy_of, product_of, Conjugate, Summed, Room, Joined};
 
+mod shift;
+
+pub use crate::shift::Shift;
+
 /// A complex number as a receiver gives it, each part from -1023 to 1023.
 #[derive(Clone, Copy, PartialEq, Eq, Debug, Default)]
 pub struct Sample {
