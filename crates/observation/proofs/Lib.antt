@@ -1,3 +1,4 @@
 pub mod Sums
 pub mod Antennas
 pub mod Sizes
+mod Scales

@@ -40,6 +40,7 @@ impl TryFrom<u8> for Shift {
 
 impl Shift {
     /// S
+    #[tactic(auto, using(crate::proofs::Scales::scaled, crate::proofs::Scales::scaled_small))]
     pub fn scale(self) -> i64
         ensures value { result ≡ pos (2 ^ self) }
         ensures small { unsigned_abs result ≤ 2 ^ 40 }
