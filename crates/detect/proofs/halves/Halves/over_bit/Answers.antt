@@ -1,5 +1,5 @@
-use Rattle.detect.proofs.pass.halved.Goals as goal
-use Rattle.detect.proofs.pass.halved.Goals.{then-k-i-eq1, else-k-i-eq1}
+use Rattle.detect.proofs.halves.Halves.over_bit.Goals as goal
+use Rattle.detect.proofs.halves.Halves.over_bit.Goals.{then-half-bit-eq1, else-half-bit-eq1}
 use Rattle.std.proofs.Common.{◌≡◌, ℕ, ◌+◌, ◌/◌, ◌%◌, ◌^◌, ◌≤◌, Bool, true, false, cond, eqb, List, get_or, ℤ, pos, nat_abs, sym, refl, ap, ◌∙◌, subst, add-one, arith, lit≤, w64}
 use mathlib.Core.Bool.{beq}
 use Rattle.std.specs.Int.{int_max}
@@ -11,9 +11,9 @@ use Rattle.detect.specs.Buckets.{over_codes}
 use Rattle.arith.proofs.Exact.{Is, given, equal, kept, topmost, small}
 use Rattle.detect.proofs.Topping.{both}
 
-pub loop-k-init : goal.loop-k-init
+pub loop-half-init : goal.loop-half-init
 unfolding over_codes
-loop-k-init c = (refl, refl, lit≤ tt, lit≤ tt)
+loop-half-init c = (refl, refl, lit≤ tt, lit≤ tt)
 
 over-more : (i : ℕ) (b : Bool) (xs : List ℤ) (k : ℕ) (t : Bool) → eqb ((k / 2 ^ i) % 2) 1 ≡ t → over_codes i b xs (k + 1) ≡ int_max (over_codes i b xs k) (cond (beq t b) (get_or xs k (pos 0)) lowest)
 unfolding over_codes
@@ -53,20 +53,20 @@ Within x = nat_abs x ≤ 2305843009213693952
 is_by : {t o z : ℤ} {n : ℕ} → t ≡ o → Is o z n → Is t z n
 is_by e i = record { same = e ∙ i.same; within = i.within }
 
-pub loop-k-preserved : goal.loop-k-preserved
-loop-k-preserved c =
-    let x = kept w64 (given (get_or c.args.b.now c.loop-k.k (pos 0)) (All-get_or Within c.args.b.now c.loop-k.k (pos 0) (omega arith) c.requires.1)) tt in
-    elim c.if-k-i-eq1.branch [
-      | then-k-i-eq1 w ↦ on c.args.i c.loop-k.k c.args.b.now w.if-k-i-eq1.true
-          (is_by w.one-is (kept w64 (topmost w.max-one.ensures.value (equal c.loop-k.invariant.0 c.loop-k.invariant.2) x) tt)) w.zero-is c.loop-k.invariant.1 c.loop-k.invariant.3
-      | else-k-i-eq1 w ↦ off c.args.i c.loop-k.k c.args.b.now w.if-k-i-eq1.false
-          (is_by w.zero-is (kept w64 (topmost w.max-zero.ensures.value (equal c.loop-k.invariant.1 c.loop-k.invariant.3) x) tt)) w.one-is c.loop-k.invariant.0 c.loop-k.invariant.2
+pub loop-half-preserved : goal.loop-half-preserved
+loop-half-preserved c =
+    let x = kept w64 (given (get_or c.args.self.now.best c.loop-half.half (pos 0)) (All-get_or Within c.args.self.now.best c.loop-half.half (pos 0) (omega arith) c.args.self.now.filled)) tt in
+    elim c.if-half-bit-eq1.branch [
+      | then-half-bit-eq1 w ↦ on c.args.bit c.loop-half.half c.args.self.now.best w.if-half-bit-eq1.true
+          (is_by w.one-is (kept w64 (topmost w.max-one.ensures.value (equal c.loop-half.invariant.0 c.loop-half.invariant.2) x) tt)) w.zero-is c.loop-half.invariant.1 c.loop-half.invariant.3
+      | else-half-bit-eq1 w ↦ off c.args.bit c.loop-half.half c.args.self.now.best w.if-half-bit-eq1.false
+          (is_by w.zero-is (kept w64 (topmost w.max-zero.ensures.value (equal c.loop-half.invariant.1 c.loop-half.invariant.3) x) tt)) w.one-is c.loop-half.invariant.0 c.loop-half.invariant.2
     ]
 
 pub returns : goal.returns
 returns c =
-    let e : c.loop-k.k ≡ 16 = omega arith in
+    let e : c.loop-half.half ≡ 16 = omega arith in
     record {
-      value = both (c.loop-k.invariant.0 ∙ ap (over_codes c.args.i true c.args.b.now) e) (c.loop-k.invariant.1 ∙ ap (over_codes c.args.i false c.args.b.now) e);
-      held = record { one = c.loop-k.invariant.2; zero = c.loop-k.invariant.3 };
+      value = both (c.loop-half.invariant.0 ∙ ap (over_codes c.args.bit true c.args.self.now.best) e) (c.loop-half.invariant.1 ∙ ap (over_codes c.args.bit false c.args.self.now.best) e);
+      held = record { one = c.loop-half.invariant.2; zero = c.loop-half.invariant.3 };
     }

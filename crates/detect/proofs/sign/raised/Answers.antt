@@ -1,10 +1,10 @@
-use Rattle.detect.proofs.pass.raised.Goals as goal
+use Rattle.detect.proofs.sign.raised.Goals as goal
 use Rattle.std.proofs.Common.{w64}
 use Rattle.arith.proofs.Exact.{given, fits, kept, plus, minus, sized, topmost, looser, small}
 use Rattle.detect.proofs.Topping.{both}
 
-pub overflow_add-b-2 : goal.overflow_add-b-2
-overflow_add-b-2 c =
+pub overflow_add-reach-2 : goal.overflow_add-reach-2
+overflow_add-reach-2 c =
     let b = kept w64 (given c.args.base c.requires.1.base_in) tt in
     let t = kept w64 (given c.args.turn c.requires.1.tv_in) tt in
     let o = kept w64 (sized c.abs.ensures.value (kept w64 (given c.args.cross c.requires.1.tu_in) tt)) tt in

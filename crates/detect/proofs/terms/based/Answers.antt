@@ -1,4 +1,4 @@
-use Rattle.detect.proofs.submetric.based.Goals as goal
+use Rattle.detect.proofs.terms.based.Goals as goal
 use Rattle.std.proofs.Common.{◌≡◌, ℕ, ◌≤◌, ℤ, pos, ◌+ℤ◌, ◌*ℤ◌, nat_abs, ap, ◌∙◌, w64}
 use Rattle.observation.specs.declared.Record.{Record}
 use Rattle.detect.specs.Parts.{Basing}
