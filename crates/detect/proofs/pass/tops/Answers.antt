@@ -1,12 +1,11 @@
 use Rattle.detect.proofs.pass.tops.Goals as goal
-use Rattle.std.proofs.Common.{◌≡◌, ℕ, ◌<◌, List, [], length, get_or, subst, sym, refl, ◌∙◌, ap, ℤ, pos, replicate, arith}
+use Rattle.std.proofs.Common.{◌≡◌, ℕ, ◌<◌, List, [], length, get_or, subst, sym, refl, ◌∙◌, ap, ℤ, pos, replicate}
 use Rattle.std.specs.List.{AllByRecursion}
 use Rattle.std.proofs.ByRecursion.{All-get_or}
-use Rattle.std.proofs.lemmas.List.{take_all}
 use Rattle.constellation.specs.declared.Point.{Point}
 use Rattle.detect.specs.Parts.{Placed}
 use Rattle.detect.specs.Tops.{top_of, lowest, Filled}
-use Rattle.detect.specs.Buckets.{Gathered, Bucketed, tops_by}
+use Rattle.detect.specs.Buckets.{Bucketed, tops_by}
 use Rattle.detect.proofs.Charted.{placed, apart}
 use Rattle.detect.proofs.Gathering.{gather_more}
 
@@ -37,10 +36,3 @@ loop-point-preserved c =
     gather_more c.as_slice-point-items.result.now c.loop-point.point-index nowhere c.loop-point-test.true (apart c.args.symbol.now.chart.now.lawful)
     c.loop-point.invariant c.submetric.ensures c.submetric.result.bounded
     c.offer.ensures.lows c.offer.ensures.highs c.offer.ensures.v c.offer.ensures.u c.offer.new.self.v_held c.offer.new.self.u_held
-
-pub returns : goal.returns
-returns c =
-    let s = c.args.symbol.now in
-    let t = c.loop-point.tops in
-    let all = take_all c.loop-point.point-index c.as_slice-point-items.result.now (omega arith) ∙ c.as_slice-point-items.ensures.value in
-    subst (λ (l : List Point). Gathered s.record.now s.shift s.priors.now s.chart.now.m s.chart.now.u s.chart.now.v l t.lows.best t.highs.best t.v t.u) all c.loop-point.invariant

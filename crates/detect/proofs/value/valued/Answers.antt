@@ -24,9 +24,6 @@ is_by e i = record { same = e ∙ i.same; within = i.within }
 doubled : (k : ℕ) → 2 ^ (k + 1) ≡ 2 * 2 ^ k
 doubled k = omega (arith, pow-add 2 k 1)
 
-pub overflow_mul-scale : goal.overflow_mul-scale
-overflow_mul-scale c = fits w64 (own c.scale-scale.ensures.value c.scale-scale.ensures.small c.requires).is tt
-
 pub less_own-difference-requires : goal.less_own-difference-requires
 less_own-difference-requires c = (
   small 4611686018427387904 (apart c.requires).is tt,
@@ -37,11 +34,6 @@ pub overflow_add-difference : goal.overflow_add-difference
 overflow_add-difference c =
     let d = less c.less_own-difference.ensures.value c.less_own-difference.ensures.small (apart c.requires).is (keep w64 (own c.scale-scale.ensures.value c.scale-scale.ensures.small c.requires) tt).is in
     fits w64 (keep w64 (know d) tt ⊕ keep w64 (know (equal c.scale-scale.ensures.value c.scale-scale.ensures.small)) tt).is tt
-
-pub floored-requires : goal.floored-requires
-floored-requires c =
-    let d = less c.less_own-difference.ensures.value c.less_own-difference.ensures.small (apart c.requires).is (keep w64 (own c.scale-scale.ensures.value c.scale-scale.ensures.small c.requires) tt).is in
-    (c.requires.shift_in, small 4629699317425242112 (keep w64 (keep w64 (know d) tt ⊕ keep w64 (know (equal c.scale-scale.ensures.value c.scale-scale.ensures.small)) tt) tt).is tt)
 
 pub returns : goal.returns
 returns c =

@@ -9,7 +9,6 @@ use Rattle.std.proofs.ByRecursion.{All-get_or}
 use Rattle.detect.specs.Tops.{lowest}
 use Rattle.detect.specs.Buckets.{over_codes}
 use Rattle.arith.proofs.Exact.{Is, given, equal, kept, topmost, small}
-use Rattle.detect.proofs.Topping.{both}
 
 pub loop-half-init : goal.loop-half-init
 unfolding over_codes
@@ -62,11 +61,3 @@ loop-half-preserved c =
       | else-half-bit-eq1 w ↦ off c.args.bit c.loop-half.half c.args.self.now.best w.if-half-bit-eq1.false
           (is_by w.zero-is (kept w64 (topmost w.max-zero.ensures.value (equal c.loop-half.invariant.1 c.loop-half.invariant.3) x) tt)) w.one-is c.loop-half.invariant.0 c.loop-half.invariant.2
     ]
-
-pub returns : goal.returns
-returns c =
-    let e : c.loop-half.half ≡ 16 = omega arith in
-    record {
-      value = both (c.loop-half.invariant.0 ∙ ap (over_codes c.args.bit true c.args.self.now.best) e) (c.loop-half.invariant.1 ∙ ap (over_codes c.args.bit false c.args.self.now.best) e);
-      held = record { one = c.loop-half.invariant.2; zero = c.loop-half.invariant.3 };
-    }

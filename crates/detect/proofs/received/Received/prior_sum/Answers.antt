@@ -6,7 +6,7 @@ use Rattle.std.specs.List.{AllByRecursion}
 use Rattle.metric.specs.Exhaustive.{sum_to, label_bit, at_bit}
 use Rattle.metric.proofs.Loops.{sum_more}
 use Rattle.detect.specs.Parts.{prior_sum}
-use Rattle.arith.proofs.Exact.{Is, given, equal, kept, plus, fits}
+use Rattle.arith.proofs.Exact.{Is, given, equal, kept, plus}
 
 abbrev Small : ℤ → Type 0
 Small x = nat_abs x ≤ 8191
@@ -44,13 +44,6 @@ pub loop-index-init : goal.loop-index-init
 unfolding sum_to
 loop-index-init c = (refl, omega arith)
 
-pub overflow_add-sum : goal.overflow_add-sum
-overflow_add-sum c =
-    let s = c.args.self.now in
-    let x = kept w16 (given (get_or s.priors.now c.loop-index.index (pos 0)) (value_at s.priors.now c.loop-index.index c.loop-index-test.true s.given.a_in)) tt in
-    let one = kept w64 (counted_is c.counted-sum.ensures.value c.counted-sum.ensures.small c.bit_at.ensures.value x) tt in
-    fits w64 (plus (so_far c.loop-index.index c.loop-index.invariant.1 c.loop-index-test.true s.known s.given.m_in) one) tt
-
 pub loop-index-preserved : goal.loop-index-preserved
 loop-index-preserved c =
     let s = c.args.self.now in
@@ -58,12 +51,3 @@ loop-index-preserved c =
     let one = kept w64 (counted_is c.counted-sum.ensures.value c.counted-sum.ensures.small c.bit_at.ensures.value x) tt in
     sum_next (part s.chart.now.m c.args.label s.priors.now c.loop-index.index) c.loop-index.index (kept w64 (plus (so_far c.loop-index.index c.loop-index.invariant.1 c.loop-index-test.true s.known s.given.m_in) one) tt)
     c.loop-index.invariant.0 (prior_sum-more s.chart.now.m c.args.label s.priors.now c.loop-index.index) c.loop-index.invariant.1 one.within
-
-pub returns : goal.returns
-returns c =
-    let s = c.args.self.now in
-    let e : c.loop-index.index ≡ s.chart.now.m = omega (arith, s.known) in
-    record {
-      value = c.loop-index.invariant.0 ∙ ap (prior_sum s.chart.now.m c.args.label s.priors.now) e;
-      small = omega (arith, s.given.m_in);
-    }
