@@ -9,6 +9,7 @@ use Rattle.std.proofs.lemmas.List.{take_more}
 use Rattle.std.proofs.ByRecursion.{All-get_or, All-set, All-more}
 use Rattle.metric.specs.Exhaustive.{greater, label_bit, signed}
 use Rattle.metric.specs.Reduced.{absolute}
+use Rattle.metric.proofs.Sums.{eqb_same, eqb_apart}
 use Rattle.metric.proofs.Maxes.{greater_assoc}
 use Rattle.metric.proofs.Loops.{greater_none}
 use Rattle.constellation.specs.declared.Point.{Point}
@@ -18,12 +19,6 @@ use Rattle.detect.specs.Tops.{lowest, coded, Held, Bounded, raised_by, offer_of,
 use Rattle.detect.specs.Buckets.{cross_of, tops_by, over_codes, noted_by, low_half, high_half, Bucketed, place_of, Gathered}
 use Rattle.detect.proofs.Topping.{both, coded-greater, within_above, top_more}
 use Rattle.detect.proofs.Coding.{tops_same, under, over_is}
-
-eqb_same : (n : ℕ) → eqb n n ≡ true
-eqb_same n = grind (arith, nat_tests)
-
-eqb_other : (n k : ℕ) → (n ≡ k → ⊥) → eqb n k ≡ false
-eqb_other n k e = grind (arith, nat_tests)
 
 tops_push : (f : Point → ℤ) (t : Point → Bool) (ps : List Point) (p : Point) → tops_by f t (ps ++ (p ∷ [])) ≡ greater (tops_by f t ps) (cond (t p) (Some (f p)) None)
 unfolding tops_by
@@ -158,7 +153,7 @@ gather_more {r} {shift} {m} {u} {v} {a} ps {base = base} {tv} {tu} i d h ne inv 
     at_v b = rw (part.base, part.tv, part.tu, eqb_same v)
 
     at_u : (b : Bool) → offer_of r shift a m u v u b (get_or ps i d) ≡ Some (base +ℤ absolute tv +ℤ signed b tu +ℤ pos 0)
-    at_u b = rw (part.base, part.tv, part.tu, eqb_other u v ne, eqb_same u)
+    at_u b = rw (part.base, part.tv, part.tu, eqb_apart u v ne, eqb_same u)
 
     turned : Bounded base tu tv
     turned = record { base_in = bound.base_in; tv_in = bound.tu_in; tu_in = bound.tv_in }

@@ -6,6 +6,7 @@ use Rattle.std.proofs.lemmas.Int.{to_z-of_z}
 use Rattle.metric.specs.Exhaustive.{clipped}
 use Rattle.detect.specs.Tops.{Valuing}
 use Rattle.arith.proofs.Exact.{Is, Known, know, arg, keep, equal, kept, fits, shifted, small, ◌⊗◌, ◌⊕◌, ◌⊖◌}
+use Rattle.detect.proofs.Topping.{is_by}
 
 -- the parts, as the machine has them; s is S, with what `scale` says of it
 abbrev own : {s one zero a : ℤ} {shift : ℕ} → s ≡ pos (2 ^ shift) → nat_abs s ≤ 2 ^ 40 → Valuing one zero shift a → Known
@@ -17,9 +18,6 @@ apart {one} {zero} p = keep w64 (keep w64 (arg one p.one_in) tt ⊖ keep w64 (ar
 -- what `less_own` says of its result
 less : {r d y o z : ℤ} {m n : ℕ} → r ≡ d -ℤ pos 2 *ℤ o → nat_abs r ≤ 4629698217913614336 → Is d y m → Is o z n → Is r (y -ℤ pos 2 *ℤ z) 4629698217913614336
 less e h i j = equal (e ∙ ap₂ (λ (d o : ℤ). d -ℤ pos 2 *ℤ o) i.same j.same) h
-
-is_by : {t o z : ℤ} {n : ℕ} → t ≡ o → Is o z n → Is t z n
-is_by e i = record { same = e ∙ i.same; within = i.within }
 
 doubled : (k : ℕ) → 2 ^ (k + 1) ≡ 2 * 2 ^ k
 doubled k = omega (arith, pow-add 2 k 1)

@@ -4,11 +4,12 @@ use Rattle.std.proofs.Common.{◌≡◌, ℕ, ◌+◌, ◌/◌, ◌%◌, ◌^◌
 use mathlib.Core.Bool.{beq}
 use Rattle.std.specs.Int.{int_max}
 use Rattle.std.proofs.lemmas.Int.{ints, clamps}
-use Rattle.std.proofs.lemmas.Bool.Decides.{nat_tests}
 use Rattle.std.proofs.ByRecursion.{All-get_or}
+use Rattle.metric.proofs.Sums.{eqb_apart}
 use Rattle.detect.specs.Tops.{lowest}
 use Rattle.detect.specs.Buckets.{over_codes}
 use Rattle.arith.proofs.Exact.{Is, given, equal, kept, topmost, small}
+use Rattle.detect.proofs.Topping.{is_by}
 
 pub loop-half-init : goal.loop-half-init
 unfolding over_codes
@@ -18,12 +19,6 @@ over-more : (i : ℕ) (b : Bool) (xs : List ℤ) (k : ℕ) (t : Bool) → eqb ((
 unfolding over_codes
 over-more i b xs k t e = rw (add-one, e)
 
-is_on : (n : ℕ) → n ≡ 1 → eqb n 1 ≡ true
-is_on n e = grind (arith, nat_tests)
-
-is_off : (n : ℕ) → (n ≡ 1 → ⊥) → eqb n 1 ≡ false
-is_off n e = grind (arith, nat_tests)
-
 above : (z : ℤ) → nat_abs z ≤ 2305843009213693952 → z ≡ int_max z lowest
 above z h = omega (arith, ints, clamps)
 
@@ -32,25 +27,22 @@ Next i xs k o z = (o ≡ over_codes i true xs k) × (z ≡ over_codes i false xs
 
 on : (i k : ℕ) (xs : List ℤ) {o z y : ℤ} → (k / 2 ^ i) % 2 ≡ 1 → Is o (int_max (over_codes i true xs k) (get_or xs k (pos 0))) 2305843009213693952 → y ≡ z → z ≡ over_codes i false xs k → nat_abs z ≤ 2305843009213693952 → Next i xs (k + 1) o y
 on i k xs {o} {z} {y} e is f g h = (
-  is.same ∙ sym (over-more i true xs k true (is_on _ e)),
-  f ∙ above z h ∙ ap (λ (t : ℤ). int_max t lowest) g ∙ sym (over-more i false xs k true (is_on _ e)),
+  is.same ∙ sym (over-more i true xs k true (ap (λ (n : ℕ). eqb n 1) e)),
+  f ∙ above z h ∙ ap (λ (t : ℤ). int_max t lowest) g ∙ sym (over-more i false xs k true (ap (λ (n : ℕ). eqb n 1) e)),
   small 2305843009213693952 is tt,
   subst (λ (t : ℤ). nat_abs t ≤ 2305843009213693952) (sym f) h,
 )
 
 off : (i k : ℕ) (xs : List ℤ) {o z y : ℤ} → ((k / 2 ^ i) % 2 ≡ 1 → ⊥) → Is z (int_max (over_codes i false xs k) (get_or xs k (pos 0))) 2305843009213693952 → y ≡ o → o ≡ over_codes i true xs k → nat_abs o ≤ 2305843009213693952 → Next i xs (k + 1) y z
 off i k xs {o} {z} {y} e is f g h = (
-  f ∙ above o h ∙ ap (λ (t : ℤ). int_max t lowest) g ∙ sym (over-more i true xs k false (is_off _ e)),
-  is.same ∙ sym (over-more i false xs k false (is_off _ e)),
+  f ∙ above o h ∙ ap (λ (t : ℤ). int_max t lowest) g ∙ sym (over-more i true xs k false (eqb_apart _ 1 e)),
+  is.same ∙ sym (over-more i false xs k false (eqb_apart _ 1 e)),
   subst (λ (t : ℤ). nat_abs t ≤ 2305843009213693952) (sym f) h,
   small 2305843009213693952 is tt,
 )
 
 abbrev Within : ℤ → Type 0
 Within x = nat_abs x ≤ 2305843009213693952
-
-is_by : {t o z : ℤ} {n : ℕ} → t ≡ o → Is o z n → Is t z n
-is_by e i = record { same = e ∙ i.same; within = i.within }
 
 pub loop-half-preserved : goal.loop-half-preserved
 loop-half-preserved c =
