@@ -1,5 +1,5 @@
 -- One more quadrant point in the buckets, and the places' pairs from them.
-use Rattle.std.proofs.Common.{◌≡◌, ℕ, zero, suc, ◌+◌, ◌-◌, ◌/◌, ◌%◌, ◌^◌, ◌<◌, ◌≤◌, Bool, true, false, cond, eqb, ltb, ◌≢◌, List, [], ◌∷◌, ◌++◌, length, get_or, take, set, ℤ, pos, ◌+ℤ◌, ◌-ℤ◌, neg_ℤ, nat_abs, ◌≤ℤ◌, Some, None, Option, sym, refl, ap, ◌∙◌, subst, ap₂, inl, inr, arith, get_or-set_other, get_or-set_same}
+use Rattle.std.proofs.Common.{◌≡◌, ℕ, zero, suc, ◌+◌, ◌-◌, ◌/◌, ◌%◌, ◌^◌, ◌<◌, ◌≤◌, Bool, true, false, cond, eqb, ltb, ◌≢◌, List, [], ◌∷◌, ◌++◌, length, get_or, take, ℤ, pos, ◌+ℤ◌, ◌-ℤ◌, neg_ℤ, nat_abs, ◌≤ℤ◌, Some, None, Option, sym, refl, ap, ◌∙◌, subst, ap₂, inl, inr, arith, length-set, get_or-set_other, get_or-set_same}
 use mathlib.Core.Bool.{beq}
 use Rattle.std.specs.Int.{int_max}
 use Rattle.std.specs.List.{AllByRecursion}
@@ -9,21 +9,16 @@ use Rattle.std.proofs.lemmas.List.{take_more}
 use Rattle.std.proofs.ByRecursion.{All-get_or, All-set, All-more}
 use Rattle.metric.specs.Exhaustive.{greater, label_bit, signed}
 use Rattle.metric.specs.Reduced.{absolute}
+use Rattle.metric.proofs.Sums.{eqb_same, eqb_apart}
 use Rattle.metric.proofs.Maxes.{greater_assoc}
 use Rattle.metric.proofs.Loops.{greater_none}
 use Rattle.constellation.specs.declared.Point.{Point}
 use Rattle.observation.specs.declared.Record.{Record}
-use Rattle.detect.specs.Parts.{base_of, tv_of, tu_of}
+use Rattle.detect.specs.Parts.{Parted}
 use Rattle.detect.specs.Tops.{lowest, coded, Held, Bounded, raised_by, offer_of, top_of, pair_of}
-use Rattle.detect.specs.Buckets.{cross_of, tops_by, over_codes, low_half, high_half, Bucketed, place_of, Gathered}
+use Rattle.detect.specs.Buckets.{cross_of, tops_by, over_codes, noted_by, low_half, high_half, Bucketed, place_of, Gathered}
 use Rattle.detect.proofs.Topping.{both, coded-greater, within_above, top_more}
 use Rattle.detect.proofs.Coding.{tops_same, under, over_is}
-
-eqb_same : (n : ℕ) → eqb n n ≡ true
-eqb_same n = grind (arith, nat_tests)
-
-eqb_other : (n k : ℕ) → (n ≡ k → ⊥) → eqb n k ≡ false
-eqb_other n k e = grind (arith, nat_tests)
 
 tops_push : (f : Point → ℤ) (t : Point → Bool) (ps : List Point) (p : Point) → tops_by f t (ps ++ (p ∷ [])) ≡ greater (tops_by f t ps) (cond (t p) (Some (f p)) None)
 unfolding tops_by
@@ -42,9 +37,9 @@ max_in a b h k = omega (arith, ints, clamps)
 
 -- the buckets after one point more
 pub bucket_more : (f : Point → ℤ) (g : Point → ℕ) (ps : List Point) (i : ℕ) (d : Point) {xs ys : List ℤ} {c : ℤ} → i < length ps → g (get_or ps i d) < 16 →
-    Bucketed f g (take i ps) xs → length ys ≡ 16 → ys ≡ set xs (g (get_or ps i d)) (int_max (get_or xs (g (get_or ps i d)) (pos 0)) c) → c ≡ f (get_or ps i d) → Within c →
+    Bucketed f g (take i ps) xs → ys ≡ noted_by xs (g (get_or ps i d)) c → c ≡ f (get_or ps i d) → Within c →
     Bucketed f g (take (i + 1) ps) ys
-bucket_more f g ps i d {xs} {ys} {c} h s inv long e q w = record { long = long; bounded = subst (AllByRecursion Within) (sym e) (All-set Within xs n _ (max_in (get_or xs n (pos 0)) c old w) inv.bounded); at = at }
+bucket_more f g ps i d {xs} {ys} {c} h s inv e q w = record { long = ap length e ∙ length-set xs (g (get_or ps i d)) (int_max (get_or xs (g (get_or ps i d)) (pos 0)) c) ∙ inv.long; bounded = subst (AllByRecursion Within) (sym e) (All-set Within xs n _ (max_in (get_or xs n (pos 0)) c old w) inv.bounded); at = at }
   where
     n : ℕ
     n = g (get_or ps i d)
@@ -120,37 +115,45 @@ minus_u b c t = omega (arith, ints)
 plus_none : (z : ℤ) → z +ℤ pos 0 ≡ z
 plus_none z = omega (arith, ints)
 
+-- the best of a quadrant point's four is within bounds
+reach : (b t c : ℤ) → Bounded b t c → Within (b +ℤ absolute t +ℤ absolute c)
+reach b t c h = go b t c h.base_in h.tv_in h.tu_in
+  where
+    go : (b t c : ℤ) → nat_abs b ≤ 760000000000000000 → nat_abs t ≤ 152700000000000000 → nat_abs c ≤ 152700000000000000 → Within (b +ℤ absolute t +ℤ absolute c)
+    go b t c h k l = omega (arith, ints)
+
 -- the pass's step
-pub gather_more : {r : Record} {shift m u v : ℕ} {a : List ℤ} (ps : List Point) {lows highs lows' highs' : List ℤ} {pv pu pv' pu' : ℤ × ℤ} {base tv tu c : ℤ} (i : ℕ) (d : Point) → i < length ps → u ≢ v →
+pub gather_more : {r : Record} {shift m u v : ℕ} {a : List ℤ} (ps : List Point) {lows highs lows' highs' : List ℤ} {pv pu pv' pu' : ℤ × ℤ} {base tv tu : ℤ} (i : ℕ) (d : Point) → i < length ps → u ≢ v →
     Gathered r shift a m u v (take i ps) lows highs pv pu →
-    base ≡ base_of (get_or ps i d) r shift a m → tv ≡ tv_of (get_or ps i d) r shift a v → tu ≡ tu_of (get_or ps i d) r shift a u → Bounded base tv tu →
-    pv' ≡ raised_by pv base tv tu → Held pv' → pu' ≡ raised_by pu base tu tv → Held pu' →
-    c ≡ base +ℤ absolute tv +ℤ absolute tu → Within c →
-    length lows' ≡ 16 → lows' ≡ set lows (low_half (get_or ps i d)) (int_max (get_or lows (low_half (get_or ps i d)) (pos 0)) c) →
-    length highs' ≡ 16 → highs' ≡ set highs (high_half (get_or ps i d)) (int_max (get_or highs (high_half (get_or ps i d)) (pos 0)) c) →
+    Parted (get_or ps i d) r shift a m u v base tv tu → Bounded base tv tu →
+    lows' ≡ noted_by lows (low_half (get_or ps i d)) (base +ℤ absolute tv +ℤ absolute tu) → highs' ≡ noted_by highs (high_half (get_or ps i d)) (base +ℤ absolute tv +ℤ absolute tu) →
+    pv' ≡ raised_by pv base tv tu → pu' ≡ raised_by pu base tu tv → Held pv' → Held pu' →
     Gathered r shift a m u v (take (i + 1) ps) lows' highs' pv' pu'
 unfolding offer_of
-gather_more {r} {shift} {m} {u} {v} {a} ps {base = base} {tv} {tu} {c} i d h ne inv e f g bound pv hv pu hu ec wc ll el lh eh = record {
-  low = bucket_more (cross_of r shift a m u v) low_half ps i d h (small (get_or ps i d).label) inv.low ll el crossed wc;
-  high = bucket_more (cross_of r shift a m u v) high_half ps i d h (small ((get_or ps i d).label / 16)) inv.high lh eh crossed wc;
+gather_more {r} {shift} {m} {u} {v} {a} ps {base = base} {tv} {tu} i d h ne inv part bound el eh pv pu hv hu = record {
+  low = bucket_more (cross_of r shift a m u v) low_half ps i d h (small (get_or ps i d).label) inv.low el crossed within;
+  high = bucket_more (cross_of r shift a m u v) high_half ps i d h (small ((get_or ps i d).label / 16)) inv.high eh crossed within;
   v_at = pair-more r shift a m u v v ps i d base tv tu h (at_v true ∙ ap Some (minus_v base tv (absolute tu))) (at_v false ∙ ap Some (plus_v base tv (absolute tu))) bound inv.v_held inv.v_at pv;
   u_at = pair-more r shift a m u v u ps i d base tu tv h (at_u true ∙ ap Some (minus_u base (absolute tv) tu)) (at_u false ∙ ap Some (plus_none (base +ℤ absolute tv +ℤ tu))) turned inv.u_held inv.u_at pu;
   v_held = hv;
   u_held = hu;
-  above = All-more (λ p. lowest ≤ℤ cross_of r shift a m u v p) ps i d h inv.above (within_above _ (subst Within crossed wc));
+  above = All-more (λ p. lowest ≤ℤ cross_of r shift a m u v p) ps i d h inv.above (within_above _ (subst Within crossed within));
 }
   where
     small : (n : ℕ) → n % 16 < 16
     small n = omega arith
 
-    crossed : c ≡ cross_of r shift a m u v (get_or ps i d)
-    crossed = ec ∙ rw (e, f, g)
+    within : Within (base +ℤ absolute tv +ℤ absolute tu)
+    within = reach base tv tu bound
+
+    crossed : base +ℤ absolute tv +ℤ absolute tu ≡ cross_of r shift a m u v (get_or ps i d)
+    crossed = rw (part.base, part.tv, part.tu)
 
     at_v : (b : Bool) → offer_of r shift a m u v v b (get_or ps i d) ≡ Some (base +ℤ signed b tv +ℤ absolute tu +ℤ pos 0)
-    at_v b = rw (e, f, g, eqb_same v)
+    at_v b = rw (part.base, part.tv, part.tu, eqb_same v)
 
     at_u : (b : Bool) → offer_of r shift a m u v u b (get_or ps i d) ≡ Some (base +ℤ absolute tv +ℤ signed b tu +ℤ pos 0)
-    at_u b = rw (e, f, g, eqb_other u v ne, eqb_same u)
+    at_u b = rw (part.base, part.tv, part.tu, eqb_apart u v ne, eqb_same u)
 
     turned : Bounded base tu tv
     turned = record { base_in = bound.base_in; tv_in = bound.tu_in; tu_in = bound.tv_in }

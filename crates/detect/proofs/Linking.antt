@@ -47,8 +47,8 @@ more c o = mapped (λ d. d +ℤ c) o
 later : (b v u o : ℤ) → b +ℤ v +ℤ u +ℤ o ≡ b +ℤ v +ℤ u +ℤ pos 0 +ℤ o
 later b v u o = omega (arith, ints)
 
-choice-more : (isV isU bit b : Bool) (base tv tu own : ℤ) → choice isV isU bit b base tv tu own ≡ more own (choice isV isU bit b base tv tu (pos 0))
-choice-more true isU bit b base tv tu own = ap Some (later base _ _ own)
+choice-more : (is_v is_u bit b : Bool) (base tv tu own : ℤ) → choice is_v is_u bit b base tv tu own ≡ more own (choice is_v is_u bit b base tv tu (pos 0))
+choice-more true is_u bit b base tv tu own = ap Some (later base _ _ own)
 choice-more false true bit b base tv tu own = ap Some (later base _ _ own)
 choice-more false false true true base tv tu own = ap Some (later base _ _ own)
 choice-more false false true false base tv tu own = refl

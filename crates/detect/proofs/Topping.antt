@@ -3,6 +3,7 @@ use Rattle.std.proofs.Common.{◌≡◌, ℕ, ◌+◌, ◌<◌, ◌≤◌, Bool,
 use Rattle.std.specs.Int.{int_max}
 use Rattle.std.proofs.lemmas.Int.{ints, clamps}
 use Rattle.std.proofs.lemmas.List.{take_more}
+use Rattle.arith.proofs.Exact.{Is}
 use Rattle.metric.specs.Exhaustive.{greater}
 use Rattle.metric.proofs.Maxes.{greater_assoc}
 use Rattle.metric.proofs.Loops.{greater_none}
@@ -12,6 +13,10 @@ use Rattle.detect.specs.Tops.{lowest, coded, offer_of, top_of}
 
 pub both : {a b c d : ℤ} → a ≡ c → b ≡ d → ◌≡◌ {A = ℤ × ℤ} (a, b) (c, d)
 both e f = ap₂ (λ (a b : ℤ). (a, b)) e f
+
+-- what is said of a number, of one that is the same
+pub is_by : {t o z : ℤ} {n : ℕ} → t ≡ o → Is o z n → Is t z n
+is_by e i = record { same = e ∙ i.same; within = i.within }
 
 -- the low number stands for none: the larger of two codes is the code of the greater
 pub coded-greater : (o p : Option ℤ) → lowest ≤ℤ coded o → lowest ≤ℤ coded p → coded (greater o p) ≡ int_max (coded o) (coded p)

@@ -1,5 +1,5 @@
 -- The best of each half label, and from those the best of each bit.
-use Rattle.std.specs.Prelude.{◌≡◌, ℕ, zero, suc, ◌+◌, ◌-◌, ◌/◌, ◌%◌, ◌^◌, ◌<◌, ◌≤◌, Bool, true, false, cond, List, [], ◌∷◌, length, ℤ, pos, ◌+ℤ◌, ◌≤ℤ◌, Some, None, Option, ◌==◌, nat_eq, nat_lt, slice_index_or, unsigned_abs}
+use Rattle.std.specs.Prelude.{◌≡◌, ℕ, zero, suc, ◌+◌, ◌-◌, ◌/◌, ◌%◌, ◌^◌, ◌<◌, ◌≤◌, Bool, true, false, cond, List, [], ◌∷◌, length, ℤ, pos, ◌+ℤ◌, ◌≤ℤ◌, Some, None, Option, ◌==◌, nat_eq, nat_lt, slice_index_or, slice_set, unsigned_abs}
 use Rattle.std.specs.Bool.{beq}
 use Rattle.std.specs.Int.{int_max}
 use Rattle.std.specs.List.{AllByRecursion}
@@ -23,6 +23,10 @@ tops_by f t (p ∷ ps) = greater (cond (t p) (Some (f p)) None) (tops_by f t ps)
 unfoldable pub over_codes : ℕ → Bool → List ℤ → ℕ → ℤ
 over_codes i b xs zero = lowest
 over_codes i b xs (suc n) = int_max (over_codes i b xs n) (cond (beq ((n / 2 ^ i) % 2 == 1) b) (slice_index_or xs n (pos 0)) lowest)
+
+-- the buckets after a metric is noted in the one of a code
+abbrev pub noted_by : List ℤ → ℕ → ℤ → List ℤ
+noted_by xs code c = slice_set xs code (int_max (slice_index_or xs code (pos 0)) c)
 
 -- the two halves of a label
 abbrev pub low_half : Point → ℕ

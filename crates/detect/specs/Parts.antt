@@ -1,6 +1,7 @@
 -- The parts of a quadrant point's doubled metric, over plain numbers.
 use Rattle.std.specs.Prelude.{◌≡◌, ℕ, ◌*◌, ◌/◌, ◌^◌, ◌≤◌, cond, List, length, ℤ, pos, ◌+ℤ◌, ◌-ℤ◌, ◌*ℤ◌, unsigned_abs}
-use Rattle.std.specs.List.{AllByRecursion}
+use Rattle.std.specs.Coded.{le_prop}
+use Rattle.std.specs.List.{AllByRecursion, AllByRecursion-prop}
 use Rattle.constellation.specs.declared.Point.{Point}
 use Rattle.metric.specs.Exhaustive.{sum_to, label_bit, at_bit}
 use Rattle.observation.specs.declared.Record.{Record}
@@ -67,11 +68,23 @@ pub record Basing (w : ℤ) (x y : ℕ) (r : Record) (s p : ℤ) : Type 0 where
   pub s_in : unsigned_abs s ≤ 2 ^ 40
   pub p_in : unsigned_abs p ≤ 65528
 
+pub Given-prop : {shift : ℕ} {a : List ℤ} {m u v : ℕ} → IsProp (Given shift a m u v)
+Given-prop {a = a} g h i = record {
+  shift_in = le_prop g.shift_in h.shift_in i;
+  m_in = le_prop g.m_in h.m_in i;
+  a_long = le_prop g.a_long h.a_long i;
+  a_in = AllByRecursion-prop (λ x. unsigned_abs x ≤ 8191) (λ x. le_prop) a g.a_in h.a_in i;
+  u_low = le_prop g.u_low h.u_low i;
+  u_high = le_prop g.u_high h.u_high i;
+  v_low = le_prop g.v_low h.v_low i;
+  v_high = le_prop g.v_high h.v_high i;
+}
+
 -- the parts of a point's doubled metrics, and their bounds
-pub record Parted (p : Point) (r : Record) (shift : ℕ) (a : List ℤ) (m u v : ℕ) (t : ℤ × ℤ × ℤ) : Type 0 where
-  pub base : t.0 ≡ base_of p r shift a m
-  pub tv : t.1 ≡ tv_of p r shift a v
-  pub tu : t.2 ≡ tu_of p r shift a u
-  pub base_in : unsigned_abs t.0 ≤ 736600000000000000
-  pub tv_in : unsigned_abs t.1 ≤ 152700000000000000
-  pub tu_in : unsigned_abs t.2 ≤ 152700000000000000
+pub record Parted (p : Point) (r : Record) (shift : ℕ) (a : List ℤ) (m u v : ℕ) (middle real imaginary : ℤ) : Type 0 where
+  pub base : middle ≡ base_of p r shift a m
+  pub tv : real ≡ tv_of p r shift a v
+  pub tu : imaginary ≡ tu_of p r shift a u
+  pub base_in : unsigned_abs middle ≤ 736600000000000000
+  pub tv_in : unsigned_abs real ≤ 152700000000000000
+  pub tu_in : unsigned_abs imaginary ≤ 152700000000000000

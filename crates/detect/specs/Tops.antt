@@ -1,7 +1,8 @@
 -- The best doubled metrics over the quadrant points so far, with a low number for none.
-use Rattle.std.specs.Prelude.{◌≡◌, ℕ, ◌+◌, ◌*◌, ◌<◌, ◌≤◌, Bool, true, false, List, [], ◌∷◌, length, ℤ, pos, negsuc, ◌+ℤ◌, ◌-ℤ◌, ◌*ℤ◌, Some, None, Option, ◌==◌, slice_index_or, unsigned_abs}
+use Rattle.std.specs.Prelude.{ℕ, ◌*◌, ◌≤◌, Bool, true, false, List, [], ◌∷◌, ℤ, pos, negsuc, ◌+ℤ◌, ◌-ℤ◌, ◌*ℤ◌, Some, None, Option, ◌==◌, unsigned_abs}
 use Rattle.std.specs.Int.{int_max}
-use Rattle.std.specs.List.{AllByRecursion}
+use Rattle.std.specs.Coded.{le_prop}
+use Rattle.std.specs.List.{AllByRecursion, AllByRecursion-prop}
 use Rattle.std.specs.Int.Signed.{shr_z}
 use Rattle.constellation.specs.declared.Point.{Point}
 use Rattle.metric.specs.Exhaustive.{label_bit, greater, clipped}
@@ -38,6 +39,13 @@ pub record Held (p : ℤ × ℤ) : Type 0 where
   pub one : unsigned_abs p.0 ≤ 2305843009213693952
   pub zero : unsigned_abs p.1 ≤ 2305843009213693952
 
+-- of the buckets of half labels
+abbrev pub Filled : List ℤ → Type 0
+Filled xs = AllByRecursion (λ x. unsigned_abs x ≤ 2305843009213693952) xs
+
+pub Filled-prop : (xs : List ℤ) → IsProp (Filled xs)
+Filled-prop xs = AllByRecursion-prop (λ x. unsigned_abs x ≤ 2305843009213693952) (λ x. le_prop) xs
+
 -- of one quadrant point's parts
 pub record Bounded (base tv tu : ℤ) : Type 0 where
   pub base_in : unsigned_abs base ≤ 760000000000000000
@@ -59,9 +67,3 @@ raised_by p base turn cross = (int_max p.0 (base +ℤ absolute cross -ℤ turn),
 -- the pair of position k, over the points
 abbrev pub pair_of : Record → ℕ → List ℤ → (m u v : ℕ) → ℕ → List Point → ℤ × ℤ
 pair_of r shift a m u v k ps = (coded (top_of r shift a m u v k true ps), coded (top_of r shift a m u v k false ps))
-
--- the pairs of all positions
-pub record Best (r : Record) (shift : ℕ) (a : List ℤ) (m u v : ℕ) (ps : List Point) (t : List (ℤ × ℤ)) : Type 0 where
-  pub long : length t ≡ 8
-  pub held : AllByRecursion Held t
-  pub at : (k : ℕ) → k < m → slice_index_or t k (pos 0, pos 0) ≡ pair_of r shift a m u v (k + 1) ps

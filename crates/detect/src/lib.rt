@@ -3,8 +3,13 @@
 #![tactic(auto)]
 
 pub mod chart;
+mod halves;
 mod pass;
+mod received;
+mod sign;
 mod submetric;
+mod terms;
+mod tops;
 pub mod value;
 mod weights;
 

@@ -3,7 +3,6 @@
 ghost use Rattle.std.specs.Prelude.{◌≡◌, ◌+◌, ◌^◌, ◌≤◌, map, length, pos, ◌-ℤ◌, ◌*ℤ◌, unsigned_abs};
 ghost use Rattle.std.specs.Int.Signed.{shr_z};
 ghost use Rattle.std.specs.List.{range_with_len, AllByRecursion};
-ghost use Rattle.constellation.specs.Meaning.{Lawful};
 ghost use Rattle.metric.specs.Exhaustive.{Symbol, clipped as clip};
 ghost use Rattle.metric.specs.Value.{extrinsic_value};
 ghost use Rattle.observation.specs.Observed.{Measured, held as held_of};
@@ -12,42 +11,43 @@ ghost use Rattle.detect.specs.Charts.{chart_meaning};
 ghost use Rattle.detect.specs.Kept.{kept_value};
 
 use crate::chart::Chart;
-use crate::pass::bests;
+use crate::pass::tops;
+use crate::received::Received;
 use crate::weights::scale;
 use observation::Record;
 
 /// A difference of doubled metrics, less the bit's own part.
-fn less_own(d: i64, own: i64) -> i64
-    requires { (unsigned_abs d ≤ 4611686018427387904) × (unsigned_abs own ≤ 9006099743113216) }
-    ensures value { result ≡ d -ℤ pos 2 *ℤ own }
+fn less_own(difference: i64, own: i64) -> i64
+    requires { (unsigned_abs difference ≤ 4611686018427387904) × (unsigned_abs own ≤ 9006099743113216) }
+    ensures value { result ≡ difference -ℤ pos 2 *ℤ own }
     ensures small { unsigned_abs result ≤ 4629698217913614336 }
 {
-    d - 2 * own
+    difference - 2 * own
 }
 
-/// d over 2S, rounded down.
-fn floored(d: i64, shift: u8) -> i64
-    requires { (shift ≤ 40) × (unsigned_abs d ≤ 4629699317425242112) }
-    ensures { result ≡ shr_z d (2 ^ (shift + 1)) }
+/// A difference over 2S, rounded down.
+fn floored(difference: i64, shift: u8) -> i64
+    requires { (shift ≤ 40) × (unsigned_abs difference ≤ 4629699317425242112) }
+    ensures { result ≡ shr_z difference (2 ^ (shift + 1)) }
 {
-    d >> (shift + 1)
+    difference >> (shift + 1)
 }
 
-/// d, or the nearest bound of what a value can be.
-fn clipped(d: i64) -> i16
-    ensures { result ≡ clip d }
+/// A number, or the nearest bound of what a value can be.
+fn clipped(number: i64) -> i16
+    ensures { result ≡ clip number }
 {
-    d.clamp(-8191, 8191) as i16
+    number.clamp(-8191, 8191) as i16
 }
 
 /// The extrinsic value of a bit, from its best at 1 and at 0, both doubled: the bit's own part is taken off, the rest is rounded and clipped.
-fn valued(one: i64, zero: i64, shift: u8, a: i16) -> i16
-    requires { Valuing one zero shift a }
-    ensures { result ≡ value_of (2 ^ shift) a (one -ℤ zero) }
+fn valued(one: i64, zero: i64, shift: u8, prior: i16) -> i16
+    requires { Valuing one zero shift prior }
+    ensures { result ≡ value_of (2 ^ shift) prior (one -ℤ zero) }
 {
-    let s = scale(shift);
-    let d = less_own(one - zero, s * (a as i64));
-    clipped(floored(d + s, shift))
+    let scale = scale(shift);
+    let difference = less_own(one - zero, scale * (prior as i64));
+    clipped(floored(difference + scale, shift))
 }
 
 /// The extrinsic values of a symbol's bits: those of the exhaustive detector.
@@ -58,8 +58,6 @@ pub fn extrinsic_values(
     priors: &[i16],
     out: &mut [i16],
 )
-    requires lawful { Lawful (chart_meaning chart.now) }
-    requires sized { chart.now.size ≤ 64 }
     requires measured { Measured observed.now }
     requires shifted { shift ≤ 40 }
     requires known { length priors.now ≡ chart.now.m }
@@ -68,17 +66,15 @@ pub fn extrinsic_values(
     ensures values { out.new ≡ map (kept_value (chart_meaning chart.now) shift observed.now priors.now) (range_with_len 1 chart.now.m) }
     ensures exhaustive { (s : Symbol) → observed.now ≡ held_of s → out.new ≡ map (extrinsic_value (chart_meaning chart.now) shift s priors.now) (range_with_len 1 chart.now.m) }
 {
-    let best = bests(
-        &chart.points[..chart.size as usize],
-        chart.m,
-        chart.u,
-        chart.v,
-        observed,
+    let symbol = Received {
+        chart,
+        record: observed,
         shift,
         priors,
-    );
-    for j in 0..chart.m {
-        let (one, zero) = best[j as usize];
-        out[j as usize] = valued(one, zero, shift, priors[j as usize]);
+    };
+    let tops = tops(&symbol);
+    for (index, value) in out.iter_mut().enumerate() {
+        let (one, zero) = tops.pair_at(chart, index as u8);
+        *value = valued(one, zero, shift, priors[index]);
     }
 }

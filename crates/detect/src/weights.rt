@@ -4,15 +4,15 @@ ghost use Rattle.std.specs.Prelude.{◌≡◌, ◌^◌, ◌≤◌, pos, unsigned
 ghost use Rattle.detect.specs.Parts.{weight};
 
 /// W: a symbol's weight over the point's noise energy, in units of 1/2^20.
-pub fn weighed(w: u16, e: u32) -> i64
-    requires { (w ≤ 1023) × (1048576 ≤ e) }
-    ensures value { result ≡ pos (weight w e) }
-    ensures small { weight w e ≤ 1023 }
+pub fn weighed(symbol_weight: u16, noise: u32) -> i64
+    requires { (symbol_weight ≤ 1023) × (1048576 ≤ noise) }
+    ensures value { result ≡ pos (weight symbol_weight noise) }
+    ensures small { weight symbol_weight noise ≤ 1023 }
 {
-    if e == 1048576 {
-        w as i64
+    if noise == 1048576 {
+        symbol_weight as i64
     } else {
-        ((w as u64 * 1048576) / e as u64) as i64
+        ((symbol_weight as u64 * 1048576) / noise as u64) as i64
     }
 }
 

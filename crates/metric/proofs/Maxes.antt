@@ -35,8 +35,8 @@ largest-kept f t p ps = go (t p)
     go false = refl
 
 -- a point's doubled metric, if its bit is the one asked for
-abbrev pub offer : (isV isU bit b left low : Bool) → (base tv tu own : ℤ) → Option ℤ
-offer isV isU bit b left low base tv tu own = cond (beq (cond isV left (cond isU low bit)) b) (Some (base +ℤ signed left tv +ℤ signed low tu +ℤ own)) None
+abbrev pub offer : (is_v is_u bit b left low : Bool) → (base tv tu own : ℤ) → Option ℤ
+offer is_v is_u bit b left low base tv tu own = cond (beq (cond is_v left (cond is_u low bit)) b) (Some (base +ℤ signed left tv +ℤ signed low tu +ℤ own)) None
 
 two_v : (b : Bool) (p tv tu o : ℤ) → int_max (p +ℤ signed b tv +ℤ tu +ℤ o) (p +ℤ signed b tv +ℤ neg_ℤ tu +ℤ o) ≡ p +ℤ signed b tv +ℤ absolute tu +ℤ o
 two_v true p tv tu o = omega (arith, ints, clamps)
@@ -51,11 +51,11 @@ four p tv tu o =
     sym (max_assoc (p +ℤ tv +ℤ tu +ℤ o) (p +ℤ neg_ℤ tv +ℤ tu +ℤ o) (int_max (p +ℤ tv +ℤ neg_ℤ tu +ℤ o) (p +ℤ neg_ℤ tv +ℤ neg_ℤ tu +ℤ o)))
     ∙ ap₂ int_max (two_u false p tv tu o) (two_u true p tv tu o) ∙ two_v false p (absolute tv) tu o
 
-pub choice_is : (isV isU bit b : Bool) (p tv tu o : ℤ) →
-    greater (offer isV isU bit b false false p tv tu o) (greater (offer isV isU bit b true false p tv tu o) (greater (offer isV isU bit b false true p tv tu o) (offer isV isU bit b true true p tv tu o)))
-    ≡ choice isV isU bit b p tv tu o
-choice_is true isU bit true p tv tu o = ap Some (two_v true p tv tu o)
-choice_is true isU bit false p tv tu o = ap Some (two_v false p tv tu o)
+pub choice_is : (is_v is_u bit b : Bool) (p tv tu o : ℤ) →
+    greater (offer is_v is_u bit b false false p tv tu o) (greater (offer is_v is_u bit b true false p tv tu o) (greater (offer is_v is_u bit b false true p tv tu o) (offer is_v is_u bit b true true p tv tu o)))
+    ≡ choice is_v is_u bit b p tv tu o
+choice_is true is_u bit true p tv tu o = ap Some (two_v true p tv tu o)
+choice_is true is_u bit false p tv tu o = ap Some (two_v false p tv tu o)
 choice_is false true bit true p tv tu o = ap Some (two_u true p tv tu o)
 choice_is false true bit false p tv tu o = ap Some (two_u false p tv tu o)
 choice_is false false true true p tv tu o = ap Some (four p tv tu o)

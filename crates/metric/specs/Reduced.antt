@@ -52,12 +52,12 @@ turn_v C S sym A q = pos 4096 *ℤ pos (weighed sym q) *ℤ pos q.x *ℤ (matche
 unfoldable pub turn_u : Meaning → ℕ → Symbol → (ℕ → ℤ) → Point → ℤ
 turn_u C S sym A q = pos 4096 *ℤ pos (weighed sym q) *ℤ pos q.y *ℤ (matched sym.antennas).im -ℤ pos S *ℤ A C.u
 
--- the best of a quadrant point's four, of those whose bit k is b: isV says that k is v, isU that k is u, and bit is the label's bit k;
+-- the best of a quadrant point's four, of those whose bit k is b: is_v says that k is v, is_u that k is u, and bit is the label's bit k;
 -- own is what the two sign bits' a priori values add to all four
-abbrev pub choice : (isV isU bit b : Bool) → (base tv tu own : ℤ) → Option ℤ
-choice isV isU bit b base tv tu own =
-    cond isV (Some (base +ℤ signed b tv +ℤ absolute tu +ℤ own))
-    (cond isU (Some (base +ℤ absolute tv +ℤ signed b tu +ℤ own))
+abbrev pub choice : (is_v is_u bit b : Bool) → (base tv tu own : ℤ) → Option ℤ
+choice is_v is_u bit b base tv tu own =
+    cond is_v (Some (base +ℤ signed b tv +ℤ absolute tu +ℤ own))
+    (cond is_u (Some (base +ℤ absolute tv +ℤ signed b tu +ℤ own))
     (cond (beq bit b) (Some (base +ℤ absolute tv +ℤ absolute tu +ℤ own)) None))
 
 -- the same, of a quadrant point

@@ -2,7 +2,6 @@
 use Rattle.std.specs.Prelude.{◌≡◌, ℕ, ◌+◌, ◌*◌, ◌≤◌, ℤ, ◌+ℤ◌, ◌-ℤ◌, ◌*ℤ◌, neg_ℤ, unsigned_abs}
 use Rattle.observation.specs.declared.Sample.{Sample}
 use Rattle.observation.specs.declared.Record.{Record}
-use Rattle.observation.specs.Observed.{Ranged}
 
 -- |s|²
 abbrev pub energy_of : Sample → ℕ
@@ -15,12 +14,6 @@ product_of a b = (a.re *ℤ b.re -ℤ a.im *ℤ b.im, a.re *ℤ b.im +ℤ a.im *
 -- the conjugate
 abbrev pub conjugated : Sample → Sample
 conjugated s = record { re = s.re; im = neg_ℤ s.im }
-
--- r is the conjugate of s
-pub record Conjugate (s r : Sample) : Type 0 where
-  pub re : r.re ≡ s.re
-  pub im : r.im ≡ neg_ℤ s.im
-  pub ranged : Ranged r
 
 -- what n antennas add up to at most, each 2 × 1023²
 pub record Summed (n : ℕ) (r : Record) : Type 0 where

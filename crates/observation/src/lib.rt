@@ -5,7 +5,11 @@
 ghost use Rattle.std.specs.Prelude.{◌≡◌, ◌≤◌, [], length};
 ghost use Rattle.std.specs.List.{AllByRecursion};
 ghost use Rattle.observation.specs.Observed.{Ranged, Measured, held, symbol_of};
-ghost use Rattle.observation.specs.Joining.{energy_of, product_of, Conjugate, Summed, Room, Joined};
+ghost use Rattle.observation.specs.Joining.{Summed, Room, Joined};
+
+mod antenna;
+
+use crate::antenna::Antenna;
 
 mod shift;
 
@@ -38,66 +42,24 @@ pub struct Record {
     pub weight: u16,
 }
 
-/// |s|²
-fn energy(s: Sample) -> u32
-    requires { Ranged s }
-    ensures { result ≡ energy_of s }
-{
-    let re = s.re.unsigned_abs() as u32;
-    let im = s.im.unsigned_abs() as u32;
-    re * re + im * im
-}
-
-/// The energies of both.
-fn energies(y: Sample, h: Sample) -> (u32, u32)
-    requires { (Ranged y) × (Ranged h) }
-    ensures { result ≡ (energy_of y, energy_of h) }
-{
-    (energy(y), energy(h))
-}
-
-/// The conjugate.
-fn conjugate(s: Sample) -> Sample
-    requires { Ranged s }
-    ensures { Conjugate s result }
-{
-    Sample {
-        re: s.re,
-        im: -s.im,
-    }
-}
-
-/// a times b: the real part and the imaginary one.
-fn product(a: Sample, b: Sample) -> (i32, i32)
-    requires { (Ranged a) × (Ranged b) }
-    ensures { result ≡ product_of a b }
-{
-    let (a_re, a_im) = (a.re as i32, a.im as i32);
-    let (b_re, b_im) = (b.re as i32, b.im as i32);
-    (a_re * b_re - a_im * b_im, a_re * b_im + a_im * b_re)
-}
-
 /// The record of no antenna.
 fn empty(weight: u16) -> Record
     ensures value { result ≡ held (symbol_of [] [] weight) }
     ensures small { Summed 0 result }
 {
     Record {
-        z_re: 0,
-        z_im: 0,
-        y_energy: 0,
-        h_energy: 0,
         weight,
+        ..Record::default()
     }
 }
 
 /// The record with one more antenna's part.
-fn joined(before: Record, y: Sample, h: Sample) -> Record
-    requires { (Room before) × (Ranged y) × (Ranged h) }
-    ensures { Joined before y h result }
+fn joined(before: Record, antenna: Antenna) -> Record
+    requires { Room before }
+    ensures { Joined before antenna.y antenna.h result }
 {
-    let (z_re, z_im) = product(y, conjugate(h));
-    let (y_energy, h_energy) = energies(y, h);
+    let (z_re, z_im) = antenna.product();
+    let (y_energy, h_energy) = antenna.energies();
     Record {
         z_re: before.z_re + z_re,
         z_im: before.z_im + z_im,
@@ -118,8 +80,12 @@ pub fn observe(y: &[Sample], h: &[Sample], weight: u16) -> Record
     ensures small { Measured result }
 {
     let mut total = empty(weight);
-    for i in 0..y.len() {
-        total = joined(total, y[i], h[i]);
+    for (received, reference) in y.iter().zip(h) {
+        let antenna = Antenna {
+            y: *received,
+            h: *reference,
+        };
+        total = joined(total, antenna);
     }
     total
 }

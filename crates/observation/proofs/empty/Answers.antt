@@ -1,7 +1,7 @@
 use Rattle.observation.proofs.empty.Goals as goal
-use Rattle.std.proofs.Common.{refl, lit≤}
+use Rattle.std.proofs.Common.{rules}
 use Rattle.metric.specs.Reduced.{energy_y, energy_h, matched}
 
-pub returns : goal.returns
+pub returns-clause-value : goal.returns-clause-value
 unfolding energy_y energy_h matched
-returns c = record { value = refl; small = record { re = lit≤ tt; im = lit≤ tt; y = lit≤ tt; h = lit≤ tt } }
+returns-clause-value c = search rules

@@ -1,44 +1,52 @@
 use Rattle.observation.proofs.observe.Goals as goal
-use Rattle.std.proofs.Common.{◌≡◌, ℕ, ◌*◌, ◌≤◌, List, pos, nat_abs, ap, ◌∙◌, ap₂, arith}
+use Rattle.std.proofs.Common.{◌≡◌, ℕ, ◌+◌, ◌<◌, List, length, get_or, take, pos, sym, subst}
 use Rattle.std.proofs.ByRecursion.{All-get_or}
-use Rattle.std.proofs.lemmas.List.{take_all}
+use Rattle.std.proofs.lemmas.List.{length_push}
+use Rattle.std.proofs.lemmas.Slice.Zip.{zip_turn}
+use Rattle.std.specs.Iterator.Adapters.{zip_first, zip_second}
+use Rattle.std.specs.List.{AllByRecursion}
+use Rattle.std.specs.Slice.Iter.{iter_rest}
 use Rattle.observation.specs.declared.Sample.{Sample}
 use Rattle.observation.specs.declared.Record.{Record}
-use Rattle.observation.specs.Observed.{Ranged, Measured, symbol_of, held}
-use Rattle.observation.specs.Joining.{Summed}
+use Rattle.observation.specs.Observed.{Ranged, symbol_of, held}
+use Rattle.observation.specs.Joining.{Summed, Joined}
 use Rattle.observation.proofs.Antennas.{join_more, sum_small}
 
 abbrev nothing : Sample
 nothing = record { re = pos 0; im = pos 0 }
 
--- fewer antennas, less
-fewer : {i n : ℕ} {r : Record} → i ≤ n → Summed i r → Summed n r
-fewer {i} {n} {r} l s = record { re = up (nat_abs r.z_re) s.re; im = up (nat_abs r.z_im) s.im; y = up r.y_energy s.y; h = up r.h_energy s.h }
-  where
-    up : (t : ℕ) → t ≤ i * 2093058 → t ≤ n * 2093058
-    up t h = omega arith
+ranged_at : {s : Sample} (ss : List Sample) (i : ℕ) → i < length ss → s ≡ get_or ss i nothing → AllByRecursion Ranged ss → Ranged s
+ranged_at ss i h e all = subst Ranged (sym e) (All-get_or Ranged ss i nothing h all)
 
-pub joined-total-requires : goal.joined-total-requires
-joined-total-requires c = (
-  fewer {n = 3} (omega arith) c.loop-i.invariant.1,
-  All-get_or Ranged c.args.y.now c.loop-i.i nothing (omega arith) c.requires.y_ranged,
-  All-get_or Ranged c.args.h.now c.loop-i.i nothing (omega arith) c.requires.h_ranged,
-)
+-- the record of so many antennas
+abbrev So_far : List Sample → List Sample → ℕ → ℕ → Record → Type 0
+So_far ys hs w n r = (r ≡ held (symbol_of (take n ys) (take n hs) w)) × Summed n r
 
-pub loop-i-preserved : goal.loop-i-preserved
-loop-i-preserved c = (
-  join_more c.args.y.now c.args.h.now c.args.weight c.loop-i.i nothing c.requires.alike (omega arith) c.loop-i.invariant.0 c.joined-total.ensures,
-  sum_small c.loop-i.i c.loop-i.invariant.1 c.joined-total.ensures
-      (All-get_or Ranged c.args.y.now c.loop-i.i nothing (omega arith) c.requires.y_ranged)
-      (All-get_or Ranged c.args.h.now c.loop-i.i nothing (omega arith) c.requires.h_ranged),
-)
+one_more : (ys hs : List Sample) (w n k : ℕ) {r s : Record} {y h : Sample} → length ys ≡ length hs → n < length ys → k ≡ n + 1 → y ≡ get_or ys n nothing → h ≡ get_or hs n nothing →
+    Ranged y → Ranged h → So_far ys hs w n r → Joined r y h s → So_far ys hs w k s
+one_more ys hs w n k {r} {s} {y} {h} e l f g i p q so j =
+    subst (λ (m : ℕ). So_far ys hs w m s) (sym f) (
+      join_more ys hs w n nothing e l so.0 (subst (λ (z : Sample). Joined r z (get_or hs n nothing) s) g (subst (λ (z : Sample). Joined r y z s) i j)),
+      sum_small n so.1 j p q,
+    )
 
-measured : {r : Record} {w : ℕ} → Summed 4 r → r.weight ≡ w → w ≤ 1023 → Measured r
-measured s e h = record { re = s.re; im = s.im; y = s.y; h = s.h; w = omega arith }
+pub invariant_of-antenna : goal.invariant_of-antenna
+invariant_of-antenna c =
+    let s = c.into_iter-received-iterator in
+    let first : iter_rest (zip_first s.result) ≡ c.args.y.now = cc in
+    let second : iter_rest (zip_second s.result) ≡ c.args.h.now = cc in
+    let at = zip_turn c.args.y.now c.args.h.now c.loop-received.yielded s.result c.loop-received.received-iterator c.next.new.self c.next.result first second c.loop-received.yielded_by _ c.in-Some.is c.next.ensures.steps in
+    record {
+      y_ranged = ranged_at c.args.y.now (length c.loop-received.yielded) at.0 (at.2 nothing) c.requires.y_ranged;
+      h_ranged = ranged_at c.args.h.now (length c.loop-received.yielded) at.1 (at.3 nothing) c.requires.h_ranged;
+    }
 
-pub returns : goal.returns
-returns c = record {
-  value = c.loop-i.invariant.0 ∙ ap₂ (λ (l k : List Sample). held (symbol_of l k c.args.weight))
-      (take_all c.loop-i.i c.args.y.now (omega arith)) (take_all c.loop-i.i c.args.h.now (omega arith));
-  small = measured (fewer {n = 4} (omega arith) c.loop-i.invariant.1) (ap (λ (r : Record). r.weight) c.loop-i.invariant.0) c.requires.light;
-}
+pub loop-received-preserved : goal.loop-received-preserved
+loop-received-preserved c =
+    let s = c.into_iter-received-iterator in
+    let first : iter_rest (zip_first s.result) ≡ c.args.y.now = cc in
+    let second : iter_rest (zip_second s.result) ≡ c.args.h.now = cc in
+    let at = zip_turn c.args.y.now c.args.h.now c.loop-received.yielded s.result c.loop-received.received-iterator c.next.new.self c.next.result first second c.loop-received.yielded_by _ c.in-Some.is c.next.ensures.steps in
+    let n = length c.loop-received.yielded in
+    one_more c.args.y.now c.args.h.now c.args.weight n _ c.requires.alike at.0 (length_push c.loop-received.yielded _) (at.2 nothing) (at.3 nothing)
+    (ranged_at c.args.y.now n at.0 (at.2 nothing) c.requires.y_ranged) (ranged_at c.args.h.now n at.1 (at.3 nothing) c.requires.h_ranged) c.loop-received.invariant c.joined-total.ensures

@@ -1,65 +1,18 @@
 use Rattle.detect.proofs.value.extrinsic_values.Goals as goal
 use Rattle.std.proofs.Common.{◌≡◌, ℕ, zero, suc, ◌+◌, ◌^◌, ◌<◌, ◌≤◌, ◌≢◌, List, ◌∷◌, map, length, get_or, set, ℤ, pos, ◌-ℤ◌, nat_abs, refl, ap, ◌∙◌, add-one, arith, get_or-set_other, get_or-set_same, w16, w64, SFits, to_z, of_z, below_more}
-use Rattle.std.specs.List.{range_with_len, AllByRecursion}
+use Rattle.std.specs.List.{range_with_len}
 use Rattle.std.proofs.lemmas.Int.{to_z-of_z}
-use Rattle.std.proofs.ByRecursion.{All-get_or, All-weaker}
+use Rattle.std.proofs.ByRecursion.{All-get_or}
 use Rattle.std.proofs.lemmas.List.FromFn.{fill_by_all}
-use Rattle.arith.proofs.Exact.{given, kept, small}
-use Rattle.constellation.specs.Meaning.{Meaning, Lawful, Good}
+use Rattle.arith.proofs.Exact.{given, kept}
 use Rattle.metric.specs.Exhaustive.{at_bit}
 use Rattle.metric.specs.Value.{extrinsic_value}
 use Rattle.observation.specs.declared.Record.{Record}
-use Rattle.detect.specs.Parts.{Given, Placed}
-use Rattle.detect.specs.Tops.{Held, value_of}
+use Rattle.detect.specs.Tops.{value_of}
 use Rattle.detect.specs.Charts.{chart_meaning}
 use Rattle.detect.specs.Kept.{kept_value}
-use Rattle.detect.proofs.Linking.{kept_is}
-
-abbrev Small : ℤ → Type 0
-Small x = nat_abs x ≤ 8191
-
-placed : (M : Meaning) → Lawful M → AllByRecursion Placed M.points
-placed M L = All-weaker (Good M.m M.u M.v) Placed (λ p g. record { x = g.x_most; y = g.y_most; e = g.e_least }) M.points L.good
-
-given_by : {shift : ℕ} {a : List ℤ} (M : Meaning) → Lawful M → shift ≤ 40 → length a ≡ M.m → AllByRecursion Small a → Given shift a M.m M.u M.v
-given_by {a = a} M L h e k = record {
-  shift_in = h;
-  m_in = L.m_most;
-  a_long = omega arith;
-  a_in = k;
-  u_low = L.u_least;
-  u_high = L.u_most;
-  v_low = L.v_least;
-  v_high = L.v_most;
-}
-
-pub bests-best-requires : goal.bests-best-requires
-bests-best-requires c =
-    let M = chart_meaning c.args.chart.now in
-    (placed M c.requires.lawful, c.requires.measured, given_by M c.requires.lawful c.requires.shifted c.requires.known c.requires.ranged, c.requires.lawful.apart)
-
-held_at : {m : ℕ} (t : List (ℤ × ℤ)) (k : ℕ) → length t ≡ 8 → k < m → m ≤ 8 → AllByRecursion Held t → Held (get_or t k (pos 0, pos 0))
-held_at t k e h l all = All-get_or Held t k (pos 0, pos 0) (omega arith) all
-
-value_at : {m : ℕ} (a : List ℤ) (k : ℕ) → k < m → length a ≡ m → AllByRecursion Small a → Small (get_or a k (pos 0))
-value_at a k h e all = All-get_or Small a k (pos 0) (omega arith) all
-
-pub valued-requires : goal.valued-requires
-valued-requires c =
-    let best = c.bests-best.result in
-    let both = held_at best c.loop-j.j c.bests-best.ensures.long c.loop-j-test.true c.requires.lawful.m_most c.bests-best.ensures.held in
-    record {
-      one_in = small 2305843009213693952 (kept w64 (given (get_or best c.loop-j.j (pos 0, pos 0)).0 both.one) tt) tt;
-      zero_in = small 2305843009213693952 (kept w64 (given (get_or best c.loop-j.j (pos 0, pos 0)).1 both.zero) tt) tt;
-      shift_in = c.requires.shifted;
-      a_in = small 8191 (kept w16 (given (get_or c.args.priors.now c.loop-j.j (pos 0)) (value_at c.args.priors.now c.loop-j.j c.loop-j-test.true c.requires.known c.requires.ranged)) tt) tt;
-    }
-
-none : (k : ℕ) → k < 0 → ⊥
-none k h = omega arith
-
-pub loop-j-init : goal.loop-j-init
-loop-j-init c = λ k h. absurd (none k h)
+use Rattle.detect.proofs.Charted.{most, kept_same}
+use Rattle.detect.proofs.Gathering.{place_is}
 
 -- one place more is written
 put_more : (f : ℕ → ℤ) (out : List ℤ) (j : ℕ) (x : ℤ) → j < length out → ((k : ℕ) → k < j → get_or out k (pos 0) ≡ f k) → x ≡ f j → (k : ℕ) → k < j + 1 → get_or (set out j x) k (pos 0) ≡ f k
@@ -71,20 +24,22 @@ value_same S e f g = rw (e, f, g)
 at_next : (a : List ℤ) (k : ℕ) → get_or a k (pos 0) ≡ at_bit a (k + 1)
 at_next a k = rw add-one
 
-pub loop-j-preserved : goal.loop-j-preserved
+pub loop-index-preserved : goal.loop-index-preserved
 unfolding kept_value
-loop-j-preserved c =
-    let best = c.bests-best.result in
-    let both = held_at best c.loop-j.j c.bests-best.ensures.long c.loop-j-test.true c.requires.lawful.m_most c.bests-best.ensures.held in
-    let at = c.bests-best.ensures.at c.loop-j.j c.loop-j-test.true in
-    let o = kept w64 (given (get_or best c.loop-j.j (pos 0, pos 0)).0 both.one) tt in
-    let z = kept w64 (given (get_or best c.loop-j.j (pos 0, pos 0)).1 both.zero) tt in
-    let a = kept w16 (given (get_or c.args.priors.now c.loop-j.j (pos 0)) (value_at c.args.priors.now c.loop-j.j c.loop-j-test.true c.requires.known c.requires.ranged)) tt in
+loop-index-preserved c =
+    let j = c.loop-index.index in
+    let chart = c.args.chart.now in
+    let held = c.pair_at-one.ensures.held in
+    let here : j < chart.m = omega (arith, c.requires.room) in
+    let at = c.pair_at-one.ensures.value ∙ place_is chart.points.items j here (most chart.lawful) c.tops-tops.ensures in
+    let o = kept w64 (given c.pair_at-one.result.0 held.one) tt in
+    let z = kept w64 (given c.pair_at-one.result.1 held.zero) tt in
+    let a = kept w16 (given (get_or c.args.priors.now j (pos 0)) (All-get_or (λ (x : ℤ). nat_abs x ≤ 8191) c.args.priors.now j (pos 0) (omega (arith, c.requires.known)) c.requires.ranged)) tt in
     let fit : SFits w16 c.valued.result = record { sfits = c.valued.type_inv } in
-    put_more (λ k. kept_value (chart_meaning c.args.chart.now) c.args.shift c.args.observed.now c.args.priors.now (k + 1))
-    c.loop-j.out c.loop-j.j (to_z w16 (of_z w16 c.valued.result)) (omega arith) c.loop-j.invariant
+    put_more (λ k. kept_value (chart_meaning chart) c.args.shift c.args.observed.now c.args.priors.now (k + 1))
+    c.loop-index.out j (to_z w16 (of_z w16 c.valued.result)) (omega arith) c.loop-index.invariant
     (to_z-of_z w16 c.valued.result fit ∙ c.valued.ensures
-    ∙ value_same (2 ^ c.args.shift) (a.same ∙ at_next c.args.priors.now c.loop-j.j) (o.same ∙ ap (λ (p : ℤ × ℤ). p.0) at) (z.same ∙ ap (λ (p : ℤ × ℤ). p.1) at))
+    ∙ value_same (2 ^ c.args.shift) (a.same ∙ at_next c.args.priors.now j) (o.same ∙ ap (λ (p : ℤ × ℤ). p.0) at) (z.same ∙ ap (λ (p : ℤ × ℤ). p.1) at))
 
 -- a list by its entries, which are counted from 1
 shift_map : (f : ℕ → ℤ) (a n : ℕ) → map (λ k. f (k + 1)) (range_with_len a n) ≡ map f (range_with_len (a + 1) n)
@@ -97,13 +52,13 @@ listed f xs n e h = fill_by_all (λ k. f (k + 1)) xs n (pos 0) e h ∙ shift_map
 pub returns : goal.returns
 returns c =
     let M = chart_meaning c.args.chart.now in
-    let long : length c.loop-j.out ≡ M.m = omega arith in
+    let long : length c.loop-index.out ≡ M.m = omega (arith, c.requires.room) in
     record {
-      values = listed (kept_value M c.args.shift c.args.observed.now c.args.priors.now) c.loop-j.out M.m long (λ k h. c.loop-j.invariant k (enough k h));
-      exhaustive = λ s e. listed (extrinsic_value M c.args.shift s c.args.priors.now) c.loop-j.out M.m long
-          (λ k h. c.loop-j.invariant k (enough k h) ∙ ap (λ (r : Record). kept_value M c.args.shift r c.args.priors.now (k + 1)) e
-          ∙ kept_is M c.requires.lawful c.args.shift s c.args.priors.now (k + 1) (omega arith) (omega arith));
+      values = listed (kept_value M c.args.shift c.args.observed.now c.args.priors.now) c.loop-index.out M.m long (λ k h. c.loop-index.invariant k (enough k h));
+      exhaustive = λ s e. listed (extrinsic_value M c.args.shift s c.args.priors.now) c.loop-index.out M.m long
+          (λ k h. c.loop-index.invariant k (enough k h) ∙ ap (λ (r : Record). kept_value M c.args.shift r c.args.priors.now (k + 1)) e
+          ∙ kept_same c.args.chart.now.lawful c.args.shift s c.args.priors.now (k + 1) (omega arith) (omega arith));
     }
   where
-    enough : (k : ℕ) → k < c.args.chart.now.m → k < c.loop-j.j
-    enough k h = omega arith
+    enough : (k : ℕ) → k < c.args.chart.now.m → k < c.loop-index.index
+    enough k h = omega (arith, c.requires.room)

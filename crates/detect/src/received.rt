@@ -1,0 +1,75 @@
+//! What is known of one symbol.
+
+ghost use Rattle.std.specs.Prelude.{◌≡◌, ◌≤◌, ◌==◌, cond, length, pos, unsigned_abs};
+ghost use Rattle.observation.specs.Observed.{Measured};
+ghost use Rattle.detect.specs.Parts.{prior_sum, Given, Given-prop, Placed, Parted};
+
+use crate::chart::Chart;
+use crate::submetric::Submetric;
+use crate::terms::{based, turned};
+use crate::weights::{scale, weighed};
+use constellation::{Point, bit_at};
+use observation::Record;
+
+/// A symbol as it came over a chart: what its record keeps, the a priori values of its bits, and the shift of their scale.
+#[derive(Clone, Copy)]
+pub struct Received<'a> {
+    pub chart: &'a Chart,
+    pub record: &'a Record,
+    pub shift: u8,
+    pub priors: &'a [i16],
+    pub ghost measured: { Measured record.now },
+    pub ghost known: { length priors.now ≡ chart.now.m },
+    pub ghost given: { Given shift priors.now chart.now.m chart.now.u chart.now.v } by { Given-prop },
+}
+
+/// An a priori value, where its bit is 1.
+fn counted(bit: u8, prior: i16) -> i64
+    requires { unsigned_abs prior ≤ 8191 }
+    ensures value { result ≡ cond (bit == 1) prior (pos 0) }
+    ensures small { unsigned_abs result ≤ 8191 }
+{
+    if bit == 1 { i64::from(prior) } else { 0 }
+}
+
+impl Received<'_> {
+    /// The a priori values of the label's bits that are 1.
+    fn prior_sum(&self, label: u8) -> i64
+        ensures value { result ≡ prior_sum self.now.chart.now.m label self.now.priors.now self.now.chart.now.m }
+        ensures small { unsigned_abs result ≤ 65528 }
+    {
+        let mut sum: i64 = 0;
+        for (index, prior) in self.priors.iter().enumerate() {
+            sum += counted(bit_at(self.chart.m, index as u8 + 1, label), *prior);
+        }
+        sum
+    }
+
+    /// The base of a quadrant point's doubled metrics, and what the signs of its coordinates turn.
+    pub fn submetric(&self, point: Point) -> Submetric
+        requires { Placed point }
+        ensures { Parted point self.now.record.now self.now.shift self.now.priors.now self.now.chart.now.m self.now.chart.now.u self.now.chart.now.v result.base result.v result.u }
+    {
+        let record = self.record;
+        let priors = self.priors;
+        let scale = scale(self.shift);
+        let weight = weighed(record.weight, point.e);
+        let sum = self.prior_sum(point.label);
+        let base = based(weight, point.x, point.y, record, scale, sum);
+        let v = turned(
+            weight,
+            point.x,
+            record.z_re,
+            scale,
+            priors[(self.chart.v - 1) as usize],
+        );
+        let u = turned(
+            weight,
+            point.y,
+            record.z_im,
+            scale,
+            priors[(self.chart.u - 1) as usize],
+        );
+        Submetric { base, v, u }
+    }
+}
