@@ -1,7 +1,6 @@
--- What a chart means: its first `size` points are the constellation's.
-use Rattle.std.specs.Prelude.{take}
+-- What a chart means.
 use Rattle.constellation.specs.Meaning.{Meaning}
 use Rattle.detect.specs.declared.chart.Chart.{Chart}
 
 abbrev pub chart_meaning : Chart → Meaning
-chart_meaning c = record { m = c.m; u = c.u; v = c.v; points = take c.size c.points }
+chart_meaning c = record { m = c.m; u = c.u; v = c.v; points = c.points.items }

@@ -3,7 +3,6 @@
 ghost use Rattle.std.specs.Prelude.{◌≡◌, ◌+◌, ◌^◌, ◌≤◌, map, length, pos, ◌-ℤ◌, ◌*ℤ◌, unsigned_abs};
 ghost use Rattle.std.specs.Int.Signed.{shr_z};
 ghost use Rattle.std.specs.List.{range_with_len, AllByRecursion};
-ghost use Rattle.constellation.specs.Meaning.{Lawful};
 ghost use Rattle.metric.specs.Exhaustive.{Symbol, clipped as clip};
 ghost use Rattle.metric.specs.Value.{extrinsic_value};
 ghost use Rattle.observation.specs.Observed.{Measured, held as held_of};
@@ -58,8 +57,6 @@ pub fn extrinsic_values(
     priors: &[i16],
     out: &mut [i16],
 )
-    requires lawful { Lawful (chart_meaning chart.now) }
-    requires sized { chart.now.size ≤ 64 }
     requires measured { Measured observed.now }
     requires shifted { shift ≤ 40 }
     requires known { length priors.now ≡ chart.now.m }
@@ -69,7 +66,7 @@ pub fn extrinsic_values(
     ensures exhaustive { (s : Symbol) → observed.now ≡ held_of s → out.new ≡ map (extrinsic_value (chart_meaning chart.now) shift s priors.now) (range_with_len 1 chart.now.m) }
 {
     let best = bests(
-        &chart.points[..chart.size as usize],
+        &chart.points,
         chart.m,
         chart.u,
         chart.v,

@@ -1,42 +1,25 @@
 use Rattle.detect.proofs.value.extrinsic_values.Goals as goal
-use Rattle.std.proofs.Common.{◌≡◌, ℕ, zero, suc, ◌+◌, ◌^◌, ◌<◌, ◌≤◌, ◌≢◌, List, ◌∷◌, map, length, get_or, set, ℤ, pos, ◌-ℤ◌, nat_abs, refl, ap, ◌∙◌, add-one, arith, get_or-set_other, get_or-set_same, w16, w64, SFits, to_z, of_z, below_more}
+use Rattle.std.proofs.Common.{◌≡◌, ℕ, zero, suc, ◌+◌, ◌^◌, ◌<◌, ◌≤◌, ◌≢◌, List, ◌∷◌, map, length, get_or, set, ℤ, pos, ◌-ℤ◌, nat_abs, sym, refl, subst, ap, ◌∙◌, add-one, arith, get_or-set_other, get_or-set_same, w16, w64, SFits, to_z, of_z, below_more}
 use Rattle.std.specs.List.{range_with_len, AllByRecursion}
 use Rattle.std.proofs.lemmas.Int.{to_z-of_z}
-use Rattle.std.proofs.ByRecursion.{All-get_or, All-weaker}
+use Rattle.std.proofs.ByRecursion.{All-get_or}
 use Rattle.std.proofs.lemmas.List.FromFn.{fill_by_all}
 use Rattle.arith.proofs.Exact.{given, kept, small}
-use Rattle.constellation.specs.Meaning.{Meaning, Lawful, Good}
 use Rattle.metric.specs.Exhaustive.{at_bit}
 use Rattle.metric.specs.Value.{extrinsic_value}
 use Rattle.observation.specs.declared.Record.{Record}
-use Rattle.detect.specs.Parts.{Given, Placed}
-use Rattle.detect.specs.Tops.{Held, value_of}
+use Rattle.detect.specs.Parts.{Placed}
+use Rattle.detect.specs.Tops.{Held, pair_of, value_of}
 use Rattle.detect.specs.Charts.{chart_meaning}
 use Rattle.detect.specs.Kept.{kept_value}
-use Rattle.detect.proofs.Linking.{kept_is}
+use Rattle.detect.proofs.Charted.{most, apart, placed, given_by, kept_same}
 
 abbrev Small : ℤ → Type 0
 Small x = nat_abs x ≤ 8191
 
-placed : (M : Meaning) → Lawful M → AllByRecursion Placed M.points
-placed M L = All-weaker (Good M.m M.u M.v) Placed (λ p g. record { x = g.x_most; y = g.y_most; e = g.e_least }) M.points L.good
-
-given_by : {shift : ℕ} {a : List ℤ} (M : Meaning) → Lawful M → shift ≤ 40 → length a ≡ M.m → AllByRecursion Small a → Given shift a M.m M.u M.v
-given_by {a = a} M L h e k = record {
-  shift_in = h;
-  m_in = L.m_most;
-  a_long = omega arith;
-  a_in = k;
-  u_low = L.u_least;
-  u_high = L.u_most;
-  v_low = L.v_least;
-  v_high = L.v_most;
-}
-
 pub bests-best-requires : goal.bests-best-requires
 bests-best-requires c =
-    let M = chart_meaning c.args.chart.now in
-    (placed M c.requires.lawful, c.requires.measured, given_by M c.requires.lawful c.requires.shifted c.requires.known c.requires.ranged, c.requires.lawful.apart)
+    (subst (AllByRecursion Placed) (sym c.deref.ensures.0) (placed c.args.chart.now.lawful), c.requires.measured, given_by c.args.chart.now.lawful c.requires.shifted c.requires.known c.requires.ranged, apart c.args.chart.now.lawful)
 
 held_at : {m : ℕ} (t : List (ℤ × ℤ)) (k : ℕ) → length t ≡ 8 → k < m → m ≤ 8 → AllByRecursion Held t → Held (get_or t k (pos 0, pos 0))
 held_at t k e h l all = All-get_or Held t k (pos 0, pos 0) (omega arith) all
@@ -47,7 +30,7 @@ value_at a k h e all = All-get_or Small a k (pos 0) (omega arith) all
 pub valued-requires : goal.valued-requires
 valued-requires c =
     let best = c.bests-best.result in
-    let both = held_at best c.loop-j.j c.bests-best.ensures.long c.loop-j-test.true c.requires.lawful.m_most c.bests-best.ensures.held in
+    let both = held_at best c.loop-j.j c.bests-best.ensures.long c.loop-j-test.true (most c.args.chart.now.lawful) c.bests-best.ensures.held in
     record {
       one_in = small 2305843009213693952 (kept w64 (given (get_or best c.loop-j.j (pos 0, pos 0)).0 both.one) tt) tt;
       zero_in = small 2305843009213693952 (kept w64 (given (get_or best c.loop-j.j (pos 0, pos 0)).1 both.zero) tt) tt;
@@ -75,8 +58,8 @@ pub loop-j-preserved : goal.loop-j-preserved
 unfolding kept_value
 loop-j-preserved c =
     let best = c.bests-best.result in
-    let both = held_at best c.loop-j.j c.bests-best.ensures.long c.loop-j-test.true c.requires.lawful.m_most c.bests-best.ensures.held in
-    let at = c.bests-best.ensures.at c.loop-j.j c.loop-j-test.true in
+    let both = held_at best c.loop-j.j c.bests-best.ensures.long c.loop-j-test.true (most c.args.chart.now.lawful) c.bests-best.ensures.held in
+    let at = c.bests-best.ensures.at c.loop-j.j c.loop-j-test.true ∙ ap (pair_of c.args.observed.now c.args.shift c.args.priors.now c.args.chart.now.m c.args.chart.now.u c.args.chart.now.v (c.loop-j.j + 1)) c.deref.ensures.0 in
     let o = kept w64 (given (get_or best c.loop-j.j (pos 0, pos 0)).0 both.one) tt in
     let z = kept w64 (given (get_or best c.loop-j.j (pos 0, pos 0)).1 both.zero) tt in
     let a = kept w16 (given (get_or c.args.priors.now c.loop-j.j (pos 0)) (value_at c.args.priors.now c.loop-j.j c.loop-j-test.true c.requires.known c.requires.ranged)) tt in
@@ -102,7 +85,7 @@ returns c =
       values = listed (kept_value M c.args.shift c.args.observed.now c.args.priors.now) c.loop-j.out M.m long (λ k h. c.loop-j.invariant k (enough k h));
       exhaustive = λ s e. listed (extrinsic_value M c.args.shift s c.args.priors.now) c.loop-j.out M.m long
           (λ k h. c.loop-j.invariant k (enough k h) ∙ ap (λ (r : Record). kept_value M c.args.shift r c.args.priors.now (k + 1)) e
-          ∙ kept_is M c.requires.lawful c.args.shift s c.args.priors.now (k + 1) (omega arith) (omega arith));
+          ∙ kept_same c.args.chart.now.lawful c.args.shift s c.args.priors.now (k + 1) (omega arith) (omega arith));
     }
   where
     enough : (k : ℕ) → k < c.args.chart.now.m → k < c.loop-j.j
