@@ -1,80 +1,62 @@
 -- From what a table or a draft is left as to what the burst is left as, and to what it then stands for.
-use Rattle.std.proofs.Common.{◌≡◌, ℕ, ◌+◌, ◌-◌, ◌*◌, ◌<◌, ◌≤◌, false, not, eqb, leb, List, map, length, take, drop, replicate, ℤ, pos, Ok, Err, Result, sym, refl, ap, ◌∙◌, subst, mul-le-mul, arith}
-use Rattle.std.proofs.lemmas.List.{length-take-le}
+use Rattle.std.proofs.Common.{◌≡◌, ℕ, ◌+◌, ◌-◌, ◌*◌, ◌<◌, ◌≤◌, false, not, eqb, leb, length, drop, ℤ, List, Ok, Err, Result, sym, refl, ap, ◌∙◌, subst, mul-le-mul, arith}
 use Rattle.std.proofs.lemmas.Bool.{and_parts, leb-true, eqb-true}
 use Rattle.refusal.specs.declared.Refusal.{Refusal}
 use Rattle.constellation.specs.Meaning.{Meaning}
-use Rattle.observation.specs.declared.Record.{Record}
 use Rattle.observation.specs.Observed.{held, symbol_of}
 use Rattle.protocol.specs.Verdicts.{Verdict, up_to}
 use Rattle.protocol.specs.Placings.{Placing, place_verdict, place_after}
-use Rattle.protocol.specs.Calls.{Call, tell, answer, withdraw, erase, outline, verdict, closed, leaves}
+use Rattle.protocol.specs.Calls.{Call, tell, taking, answer, withdraw, erase, outline, verdict, closed, leaves}
 use Rattle.protocol.specs.Stands.{recorded, erased_symbol, erased_record}
 use Rattle.protocol.proofs.Fronts.{passed}
 use Rattle.protocol.proofs.Images.{place-image, closed-image, outline-image, leaves-image}
 use Rattle.draft.specs.Drafted as drafted
-use Rattle.table.specs.Kept.{View, view, kept, outlined, fresh, tell_left, answer_left, withdraw_left, erase_left, returned}
+use Rattle.draft.specs.declared.draft.Draft.{Draft}
+use Rattle.table.specs.Kept.{view, kept, outlined, fresh, tell_left, answer_left, withdraw_left, erase_left, issued, returned}
 use Rattle.table.specs.declared.table.Table.{Table}
 use Rattle.table.specs.declared.turn.Turn.{Turn}
 use Rattle.table.proofs.Pairs.{length-paired, paired-told, paired_all, paired-set, paired-fresh}
-use Rattle.burst.specs.Public.{closed_kept, PlacedBy, ClosedBy, Called, Answered}
+use Rattle.burst.specs.Public.{open_kept, closed_kept, PlacedBy, ClosedBy, Called, Answered}
 
 -- what a placing leaves
-pub placed_by : (M : Meaning) (v w : drafted.View) (n : ℕ) (p : Placing) (r : Verdict) → length v.records ≡ n
-    → r ≡ place_verdict n v.reference p → w ≡ drafted.place_left r v p
-    → PlacedBy (drafted.kept M v) p r (drafted.kept M w)
-placed_by M v w n p r l e f = record {
-  reply = e ∙ ap (λ k. place_verdict k v.reference p) (sym l);
+pub placed_said : (M : Meaning) (d e : Draft) (p : Placing) (r : Verdict) → r ≡ place_verdict (length d.records.items) (drafted.reference_of d) p
+    → drafted.view e ≡ drafted.place_left r (drafted.view d) p → PlacedBy (open_kept M d) p r (open_kept M e)
+placed_said M d e p r reply h = record {
+  reply = reply;
   kept = left;
   stands = λ o S. left ∙ ap (λ k. place_after recorded r k p) S ∙ place-image held symbol_of r o p;
 }
   where
-    go : (r : Verdict) → drafted.kept M (drafted.place_left r v p) ≡ place_after recorded r (drafted.kept M v) p
+    go : (r : Verdict) → drafted.kept M (drafted.place_left r (drafted.view d) p) ≡ place_after recorded r (open_kept M d) p
     go (Ok a) = refl
     go (Err a) = refl
 
-    left : drafted.kept M w ≡ place_after recorded r (drafted.kept M v) p
-    left = ap (drafted.kept M) f ∙ go r
+    left : open_kept M e ≡ place_after recorded r (open_kept M d) p
+    left = ap (drafted.kept M) h ∙ go r
 
-pub closed_by : (M : Meaning) (v : drafted.View) (records : List Record) (len : ℕ) (w : View) → M.m ≤ 8 → len ≤ 128 → length records ≡ 128
-    → v.records ≡ take len records → w ≡ fresh records len v.number v.shift
-    → ClosedBy (drafted.kept M v) (kept M w)
-closed_by M v records len w small few whole e f = record {
+-- all symbols have room for their values
+room : (m n : ℕ) → m ≤ 8 → n ≤ 128 → n * m ≤ 1024
+room m n small few = mul-le-mul {n₂ = 128} {m₂ = 8} few small
+
+pub closed_said : (M : Meaning) (d : Draft) (t : Table) → M.m ≤ 8 → view t ≡ fresh d.records.items d.number d.shift → ClosedBy (open_kept M d) (closed_kept M t)
+closed_said M d t small h = record {
   kept = left;
   stands = λ o S. left ∙ ap closed S ∙ closed-image held o;
 }
   where
-    l : length (take len records) ≡ len
-    l = length-take-le len records (omega arith)
-
-    room : length (take len records) * M.m ≤ 1024
-    room = subst (λ k. k * M.m ≤ 1024) (sym l) (mul-le-mul {n₂ = 128} {m₂ = 8} few small)
-
-    left : kept M w ≡ closed (drafted.kept M v)
+    left : closed_kept M t ≡ closed (open_kept M d)
     left =
-        ap (kept M) f
-        ∙ ap (λ ys. record { meaning = M; number = v.number; shift = v.shift; symbols = ys; given = 0; out = false }) (paired-fresh M.m (take len records) 1024 room)
-        ∙ ap (λ rs. record { meaning = M; number = v.number; shift = v.shift; symbols = map (λ r. record { symbol = r; priors = replicate M.m (pos 0) }) rs; given = 0; out = false }) (sym e)
+        ap (kept M) h
+        ∙ ap (λ ys. record { meaning = M; number = d.number; shift = d.shift; symbols = ys; given = 0; out = false }) (paired-fresh M.m d.records.items 1024 (room M.m _ small d.few))
 
--- what every table keeps
-pub record Whole (v : View) : Type 0 where
-  pub few : v.len ≤ 128
-  pub whole : length v.records ≡ 128
-  pub wide : length v.priors ≡ 1024
-
-module _ (M : Meaning) (v : View) (W : Whole v) where
-  pub long : length (take v.len v.records) ≡ v.len
-  long = let a = W.few in let b = W.whole in length-take-le v.len v.records (omega arith)
-
-  pub outline_is : outline (kept M v) ≡ outlined M.m v
-  outline_is =
-      ap (λ n. record { count = n; m = M.m; number = v.number; given = v.given; out = v.out })
-      (length-paired M.m (take v.len v.records) v.priors ∙ long)
+module _ (M : Meaning) (t : Table) where
+  pub outline_is : outline (closed_kept M t) ≡ outlined M.m (view t)
+  outline_is = ap (λ n. record { count = n; m = M.m; number = t.number; given = t.given; out = t.out }) (length-paired M.m t.records.items t.priors)
 
   -- from the table's verdict and what it leaves
-  pub called : (c : Call) (r : Verdict) (w : View) → r ≡ verdict (outlined M.m v) c → kept M w ≡ leaves erased_record r (kept M v) c → Called (kept M v) c r (kept M w)
-  called c r w e f =
-      let g : r ≡ verdict (outline (kept M v)) c = e ∙ ap (λ o. verdict o c) (sym outline_is) in
+  pub called : (u : Table) (c : Call) (r : Verdict) → r ≡ verdict (outlined M.m (view t)) c → closed_kept M u ≡ leaves erased_record r (closed_kept M t) c → Called (closed_kept M t) c r (closed_kept M u)
+  called u c r e f =
+      let g : r ≡ verdict (outline (closed_kept M t)) c = e ∙ ap (λ o. verdict o c) (sym outline_is) in
       record {
         reply = g;
         kept = f;
@@ -84,79 +66,64 @@ module _ (M : Meaning) (v : View) (W : Whole v) where
         );
       }
 
-  pub withdrawn_left : (b n : ℕ) (r : Verdict) → kept M (withdraw_left r v) ≡ leaves erased_record r (kept M v) (withdraw b n)
+  -- what each call of the table leaves is what the call of the burst leaves
+  withdrawn_left : (b n : ℕ) (r : Verdict) → kept M (withdraw_left r (view t)) ≡ leaves erased_record r (closed_kept M t) (withdraw b n)
   withdrawn_left b n (Err e) = refl
   withdrawn_left b n (Ok a) = refl
 
-  pub withdraw_called : (b n : ℕ) (r : Verdict) (w : View) → r ≡ verdict (outlined M.m v) (withdraw b n) → w ≡ withdraw_left r v → Called (kept M v) (withdraw b n) r (kept M w)
-  withdraw_called b n r w e f = called (withdraw b n) r w e (ap (kept M) f ∙ withdrawn_left b n r)
-
--- a withdrawing of the table's is one of the burst's
-pub withdraw_said : (M : Meaning) (t u : Table) (b n : ℕ) (r : Verdict) → r ≡ verdict (outlined 0 (view t)) (withdraw b n) → view u ≡ withdraw_left r (view t) → Called (closed_kept M t) (withdraw b n) r (closed_kept M u)
-withdraw_said M t u b n r e f = withdraw_called M (view t) (record { few = t.few; whole = t.whole; wide = t.wide }) b n r (view u) e f
-
-module _ (M : Meaning) (small : M.m ≤ 8) (v : View) (W : Whole v) where
-  ready : length (take v.len v.records) * M.m ≤ length v.priors
-  ready =
-      let n = long M v W in
-      let g : v.len * M.m ≤ 128 * 8 = mul-le-mul W.few small in
-      let h = W.wide in
-      let k : length (take v.len v.records) * M.m ≡ v.len * M.m = ap (λ k. k * M.m) n in
-      omega arith
-
-  pub told_left : (i : ℕ) (zs : List ℤ) (r : Verdict) → r ≡ verdict (outlined M.m v) (tell i zs) → kept M (tell_left r M.m v i zs) ≡ leaves erased_record r (kept M v) (tell i zs)
-  told_left i zs (Err e) h = refl
-  told_left i zs (Ok a) h =
-      let p = passed (up_to v.len i) _ _ _ h in
-      let q = passed (not v.out) _ _ _ p.1 in
-      let t = passed (eqb (length zs) M.m) _ _ _ q.1 in
-      let b = and_parts (leb 1 i) (leb i v.len) p.0 in
+  erased_left : (i : ℕ) (r : Verdict) → r ≡ verdict (outlined M.m (view t)) (erase i) → kept M (erase_left r (view t) i) ≡ leaves erased_record r (closed_kept M t) (erase i)
+  erased_left i (Err e) h = refl
+  erased_left i (Ok a) h =
+      let p = passed (up_to (length t.records.items) i) _ _ _ h in
+      let b = and_parts (leb 1 i) (leb i (length t.records.items)) p.0 in
       let low = leb-true _ _ b.0 in
       let high = leb-true _ _ b.1 in
-      let n = long M v W in
-      let within : i - 1 < length (take v.len v.records) = omega arith in
-      ap (λ ys. record { meaning = M; number = v.number; shift = v.shift; symbols = ys; given = v.given; out = v.out })
-      (paired-told M.m (take v.len v.records) (i - 1) zs v.priors (eqb-true _ _ t.0) within ready)
+      ap (λ ys. record { meaning = M; number = t.number; shift = t.shift; symbols = ys; given = t.given; out = t.out })
+      (paired-set M.m erased_record t.records.items (i - 1) t.priors (omega arith))
 
-  pub answered_left : (b n : ℕ) (zs : List ℤ) (r : Verdict) → r ≡ verdict (outlined M.m v) (answer b n zs) → kept M (answer_left r v zs) ≡ leaves erased_record r (kept M v) (answer b n zs)
+  told_left : M.m ≤ 8 → (i : ℕ) (zs : List ℤ) (r : Verdict) → r ≡ verdict (outlined M.m (view t)) (tell i zs) → kept M (tell_left r M.m (view t) i zs) ≡ leaves erased_record r (closed_kept M t) (tell i zs)
+  told_left small i zs (Err e) h = refl
+  told_left small i zs (Ok a) h =
+      let p = passed (up_to (length t.records.items) i) _ _ _ h in
+      let q = passed (not t.out) _ _ _ p.1 in
+      let l = passed (eqb (length zs) M.m) _ _ _ q.1 in
+      let b = and_parts (leb 1 i) (leb i (length t.records.items)) p.0 in
+      let low = leb-true _ _ b.0 in
+      let high = leb-true _ _ b.1 in
+      ap (λ ys. record { meaning = M; number = t.number; shift = t.shift; symbols = ys; given = t.given; out = t.out })
+      (paired-told M.m t.records.items (i - 1) zs t.priors (eqb-true _ _ l.0) (omega arith) (omega (arith, room M.m _ small t.few, t.wide)))
+
+  answered_left : (b n : ℕ) (zs : List ℤ) (r : Verdict) → r ≡ verdict (outlined M.m (view t)) (answer b n zs) → kept M (answer_left r (view t) zs) ≡ leaves erased_record r (closed_kept M t) (answer b n zs)
   answered_left b n zs (Err e) h = refl
   answered_left b n zs (Ok a) h =
       let p = passed _ _ _ _ h in
-      let t = passed (eqb (length zs) (v.len * M.m)) _ _ _ p.1 in
-      let e : length zs ≡ length (take v.len v.records) * M.m = eqb-true _ _ t.0 ∙ ap (λ k. k * M.m) (sym (long M v W)) in
-      ap (λ ys. record { meaning = M; number = v.number; shift = v.shift; symbols = ys; given = v.given; out = false })
-      (paired_all M.m (take v.len v.records) zs (drop (0 + length zs) v.priors) v.priors e)
+      let l = passed (eqb (length zs) (length t.records.items * M.m)) _ _ _ p.1 in
+      ap (λ ys. record { meaning = M; number = t.number; shift = t.shift; symbols = ys; given = t.given; out = false })
+      (paired_all M.m t.records.items zs (drop (0 + length zs) t.priors) t.priors (eqb-true _ _ l.0))
 
-  pub erased_left : (i : ℕ) (r : Verdict) → r ≡ verdict (outlined M.m v) (erase i) → kept M (erase_left r v i) ≡ leaves erased_record r (kept M v) (erase i)
-  erased_left i (Err e) h = refl
-  erased_left i (Ok a) h =
-      let p = passed (up_to v.len i) _ _ _ h in
-      let b = and_parts (leb 1 i) (leb i v.len) p.0 in
-      let low = leb-true _ _ b.0 in
-      let high = leb-true _ _ b.1 in
-      let few = W.few in
-      let whole = W.whole in
-      ap (λ ys. record { meaning = M; number = v.number; shift = v.shift; symbols = ys; given = v.given; out = v.out })
-      (paired-set M.m erased_record v.len v.records (i - 1) v.priors (omega arith) (omega arith))
+-- each call of the table is one of the burst's: m is the number of positions
+pub withdraw_said : (M : Meaning) (t u : Table) (b n : ℕ) (r : Verdict) → r ≡ verdict (outlined 0 (view t)) (withdraw b n) → view u ≡ withdraw_left r (view t) → Called (closed_kept M t) (withdraw b n) r (closed_kept M u)
+withdraw_said M t u b n r e f = called M t u (withdraw b n) r e (ap (kept M) f ∙ withdrawn_left M t b n r)
 
-  -- each call of the table, as a call of the burst
-  pub tell_called : (m i : ℕ) (zs : List ℤ) (r : Verdict) (w : View) → m ≡ M.m → r ≡ verdict (outlined m v) (tell i zs) → w ≡ tell_left r m v i zs → Called (kept M v) (tell i zs) r (kept M w)
-  tell_called m i zs r w n e f =
-      let g : r ≡ verdict (outlined M.m v) (tell i zs) = e ∙ ap (λ k. verdict (outlined k v) (tell i zs)) n in
-      called M v W (tell i zs) r w g (ap (kept M) (f ∙ ap (λ k. tell_left r k v i zs) n) ∙ told_left i zs r g)
+pub erase_said : (M : Meaning) (t u : Table) (i : ℕ) (r : Verdict) → r ≡ verdict (outlined 0 (view t)) (erase i) → view u ≡ erase_left r (view t) i → Called (closed_kept M t) (erase i) r (closed_kept M u)
+erase_said M t u i r e f = called M t u (erase i) r e (ap (kept M) f ∙ erased_left M t i r e)
 
-  pub erase_called : (i : ℕ) (r : Verdict) (w : View) → r ≡ verdict (outlined M.m v) (erase i) → w ≡ erase_left r v i → Called (kept M v) (erase i) r (kept M w)
-  erase_called i r w e f = called M v W (erase i) r w e (ap (kept M) f ∙ erased_left i r e)
+pub tell_said : (M : Meaning) (t u : Table) (m i : ℕ) (zs : List ℤ) (r : Verdict) → M.m ≤ 8 → m ≡ M.m → r ≡ verdict (outlined m (view t)) (tell i zs) → view u ≡ tell_left r m (view t) i zs
+    → Called (closed_kept M t) (tell i zs) r (closed_kept M u)
+tell_said M t u m i zs r small n e f =
+    let g : r ≡ verdict (outlined M.m (view t)) (tell i zs) = e ∙ ap (λ k. verdict (outlined k (view t)) (tell i zs)) n in
+    called M t u (tell i zs) r g (ap (kept M) (f ∙ ap (λ k. tell_left r k (view t) i zs) n) ∙ told_left M t small i zs r g)
 
-  pub answer_called : (m : ℕ) (t : Turn) (zs : List ℤ) (r : Result (Unit {0}) (Turn × Refusal)) (w : View) → m ≡ M.m
-      → r ≡ returned (verdict (outlined m v) (answer t.burst t.number zs)) t → w ≡ answer_left (verdict (outlined m v) (answer t.burst t.number zs)) v zs → Answered (kept M v) t zs r (kept M w)
-  answer_called m t zs r w n e f =
-      let c : Call = answer t.burst t.number zs in
-      let o : verdict (outlined m v) c ≡ verdict (outlined M.m v) c = ap (λ k. verdict (outlined k v) c) n in
-      let p : verdict (outline (kept M v)) c ≡ verdict (outlined M.m v) c = ap (λ k. verdict k c) (outline_is M v W) in
-      let a : Called (kept M v) c (verdict (outlined M.m v) c) (kept M w) =
-      called M v W c (verdict (outlined M.m v) c) w refl (ap (kept M) (f ∙ ap (λ k. answer_left k v zs) o) ∙ answered_left t.burst t.number zs (verdict (outlined M.m v) c) refl) in
-      record {
-        called = subst (λ k. Called (kept M v) c k (kept M w)) (sym p) a;
-        turn = e ∙ ap (λ k. returned k t) (o ∙ sym p);
-      }
+pub answer_said : (M : Meaning) (t u : Table) (m : ℕ) (turn : Turn) (zs : List ℤ) (r : Result (Unit {0}) (Turn × Refusal)) → m ≡ M.m
+    → r ≡ returned (verdict (outlined m (view t)) (answer turn.burst turn.number zs)) turn
+    → view u ≡ answer_left (verdict (outlined m (view t)) (answer turn.burst turn.number zs)) (view t) zs → Answered (closed_kept M t) turn zs r (closed_kept M u)
+answer_said M t u m turn zs r n e f =
+    let c : Call = answer turn.burst turn.number zs in
+    let o : verdict (outlined m (view t)) c ≡ verdict (outlined M.m (view t)) c = ap (λ k. verdict (outlined k (view t)) c) n in
+    let p : verdict (outline (closed_kept M t)) c ≡ verdict (outlined M.m (view t)) c = ap (λ k. verdict k c) (outline_is M t) in
+    let a : Called (closed_kept M t) c (verdict (outlined M.m (view t)) c) (closed_kept M u) =
+    called M t u c _ refl (ap (kept M) (f ∙ ap (λ k. answer_left k (view t) zs) o) ∙ answered_left M t turn.burst turn.number zs _ refl) in
+    record {
+      called = subst (λ k. Called (closed_kept M t) c k (closed_kept M u)) (sym p) a;
+      turn = e ∙ ap (λ k. returned k turn) (o ∙ sym p);
+    }

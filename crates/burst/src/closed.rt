@@ -8,7 +8,7 @@ use crate::burst::Burst;
 use constellation::Constellation;
 use detect::chart::Chart;
 use refusal::Refusal;
-use soft::{decide, fill, look};
+use soft::Detector;
 use table::Turn;
 
 impl<C: Constellation> Burst<C> {
@@ -28,7 +28,11 @@ impl<C: Constellation> Burst<C> {
     {
         let chart = Chart::of(&self.c);
         self.table.may_take(chart.m, sheet.len())?;
-        fill(&chart, &self.table, sheet);
+        let detector = Detector {
+            chart: &chart,
+            table: &self.table,
+        };
+        detector.fill(sheet);
         Ok(self.table.issue())
     }
 
@@ -64,7 +68,11 @@ impl<C: Constellation> Burst<C> {
     {
         let chart = Chart::of(&self.c);
         self.table.may_read(chart.m, symbol, position)?;
-        Ok(look(&chart, &self.table, symbol - 1, position))
+        let detector = Detector {
+            chart: &chart,
+            table: &self.table,
+        };
+        Ok(detector.look(symbol, position))
     }
 
     /// Writes 1 where the posterior value is above 0, else 0, for every symbol and position, symbol by symbol.
@@ -73,7 +81,11 @@ impl<C: Constellation> Burst<C> {
     {
         let chart = Chart::of(&self.c);
         self.table.may_decide(chart.m, bits.len())?;
-        decide(&chart, &self.table, bits);
+        let detector = Detector {
+            chart: &chart,
+            table: &self.table,
+        };
+        detector.decide(bits);
         Ok(())
     }
 }

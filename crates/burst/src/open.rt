@@ -30,6 +30,7 @@ impl<C: Constellation> OpenBurst<C> {
     }
 
     /// Places a symbol coherently: received as `y` over the reference `h`, with a weight.
+    #[tactic(auto, using(crate::proofs::Lifting::placed_said))]
     pub fn place(&mut self, y: &[Sample], h: &[Sample], weight: u16) -> Result<(), Refusal>
         ensures placed { PlacedBy (open_kept (C.meaning self.old.c) self.old.draft) (coherent y.now h.now weight) result (open_kept (C.meaning self.old.c) self.new.draft) }
         ensures same { self.new.c ≡ self.old.c }
@@ -38,6 +39,7 @@ impl<C: Constellation> OpenBurst<C> {
     }
 
     /// Places differentially: the first `y` only is the reference, each later one is a symbol over the one before.
+    #[tactic(auto, using(crate::proofs::Lifting::placed_said))]
     pub fn place_differential(&mut self, y: &[Sample], weight: u16) -> Result<(), Refusal>
         ensures placed { PlacedBy (open_kept (C.meaning self.old.c) self.old.draft) (differential y.now weight) result (open_kept (C.meaning self.old.c) self.new.draft) }
         ensures same { self.new.c ≡ self.old.c }
@@ -52,7 +54,7 @@ impl<C: Constellation> OpenBurst<C> {
         ensures laws { Laws }
     {
         let OpenBurst { c, draft } = self;
-        let table = Table::new(draft.records, draft.len, draft.number, draft.shift);
+        let table = Table::new(draft.records, draft.number, draft.shift);
         Burst { c, table }
     }
 }

@@ -11,7 +11,7 @@ impl<C: Constellation> Burst<C> {
     pub fn symbols(&self) -> usize
         ensures { result ≡ length (closed_kept (C.meaning self.now.c) self.now.table).symbols }
     {
-        self.table.len
+        self.table.records.len()
     }
 
     /// How many positions each symbol has, 2 to 8.

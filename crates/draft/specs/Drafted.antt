@@ -1,5 +1,6 @@
 -- What a draft holds: the state of an open burst by the records of its symbols.
-use Rattle.std.specs.Prelude.{ℕ, cond, List, [], ◌∷◌, ◌++◌, take, Some, None, Ok, Err, Option, ◌==◌}
+use Rattle.std.specs.Prelude.{ℕ, List, [], ◌∷◌, ◌++◌, Some, None, Ok, Err, Option}
+use Rattle.std.specs.Option.{option_map}
 use Rattle.constellation.specs.Meaning.{Meaning}
 use Rattle.observation.specs.declared.Record.{Record}
 use Rattle.observation.specs.declared.Sample.{Sample}
@@ -16,10 +17,10 @@ pub record View : Type 0 where
   pub reference : Option (List Sample)
 
 abbrev pub reference_of : Draft → Option (List Sample)
-reference_of d = cond (d.antennas == 0) None (Some (take d.antennas d.reference))
+reference_of d = option_map (λ y. y.items) d.reference
 
 abbrev pub view : Draft → View
-view d = record { records = take d.len d.records; number = d.number; shift = d.shift; reference = reference_of d }
+view d = record { records = d.records.items; number = d.number; shift = d.shift; reference = reference_of d }
 
 abbrev pub empty : ℕ → ℕ → View
 empty number shift = record { records = []; number = number; shift = shift; reference = None }

@@ -1,7 +1,7 @@
 //! What a placing is refused for.
 
-ghost use Rattle.std.specs.Prelude.{◌≡◌, ◌<◌, ◌≤◌, ◌&&◌, length, OnOk, ◌==◌, nat_le, nat_lt};
-ghost use Rattle.std.specs.List.{prefix_len, AllByRecursion};
+ghost use Rattle.std.specs.Prelude.{◌≡◌, ◌<◌, ◌≤◌, ◌&&◌, not, OnOk, ◌==◌, nat_le, nat_lt};
+ghost use Rattle.std.specs.List.{position, AllByRecursion};
 ghost use Rattle.observation.specs.Observed.{Ranged};
 ghost use Rattle.refusal.specs.declared.Cause.TheVariants.{Antennas, Sample as BadSample, Weight as TooHeavy, Full};
 ghost use Rattle.protocol.specs.Verdicts.{each, need as allow, accepted, up_to};
@@ -27,7 +27,7 @@ pub fn check_antennas(antennas: usize, beside: usize) -> Result<(), Refusal>
     ensures reply { result ≡ allow (up_to 4 antennas && beside == antennas) Antennas antennas accepted }
     ensures few { OnOk result ((1 ≤ antennas) × (antennas ≤ 4) × (antennas ≡ beside)) }
 {
-    if antennas < 1 || antennas > MOST || beside != antennas {
+    if !(1..=MOST).contains(&antennas) || beside != antennas {
         return Err(Cause::Antennas.at(antennas));
     }
     Ok(())
@@ -36,7 +36,7 @@ pub fn check_antennas(antennas: usize, beside: usize) -> Result<(), Refusal>
 fn fits(part: i16) -> bool
     ensures { result ≡ small part }
 {
-    -LARGEST <= part && part <= LARGEST
+    (-LARGEST..=LARGEST).contains(&part)
 }
 
 fn sound(sample: Sample) -> bool
@@ -45,29 +45,23 @@ fn sound(sample: Sample) -> bool
     fits(sample.re) && fits(sample.im)
 }
 
-/// How many samples are sound before the first that is not.
-fn sound_front(vector: &[Sample]) -> usize
-    ensures count { result ≡ prefix_len fine vector.now }
-    ensures within { result ≤ length vector.now }
+/// The index of the first sample that is not sound.
+fn unsound(vector: &[Sample]) -> Option<usize>
+    ensures { result ≡ position (λ s. not (fine s)) vector.now }
 {
-    for (i, sample) in vector.iter().enumerate() {
-        if !sound(*sample) {
-            return i;
-        }
-    }
-    vector.len()
+    vector.iter().position(|sample| !sound(*sample))
 }
 
 /// Refused at the first antenna whose sample has a part outside -1023 to 1023, counted from 1.
+#[tactic(auto, using(crate::proofs::Fronts::all_fine, crate::proofs::Fronts::all_ranged))]
 pub fn check_samples(vector: &[Sample]) -> Result<(), Refusal>
     ensures reply { result ≡ each fine vector.now BadSample accepted }
     ensures ranged { OnOk result (AllByRecursion Ranged vector.now) }
 {
-    let front = sound_front(vector);
-    if front < vector.len() {
-        return Err(Cause::Sample.at(front + 1));
+    match unsound(vector) {
+        Some(i) => Err(Cause::Sample.at(i + 1)),
+        None => Ok(()),
     }
-    Ok(())
 }
 
 /// Refused where the weight is above 1023.

@@ -1,26 +1,25 @@
 //! The table and what always holds of it.
 
-ghost use Rattle.std.specs.Prelude.{◌≡◌, ◌≤◌, length};
+ghost use Rattle.std.specs.Prelude.{◌≡◌, ◌≤◌};
 ghost use Rattle.std.specs.List.{prefix_len};
+ghost use Rattle.std.specs.Option.{ForSome};
+ghost use Rattle.arrayvec.specs.ArrayVec.{array_vec_len};
 ghost use Rattle.protocol.specs.Placings.{fine};
 ghost use Rattle.observation.specs.Sizes.{measured};
 
+use arrayvec::ArrayVec;
 use observation::{Record, Sample};
 
-/// `len` placed symbols. The reference is the first `antennas` samples; 0 antennas say that none is kept.
+/// The placed symbols, and the received vector that the next differential symbol refers to, once there is one.
+/// An array vector keeps its bound to itself, so `few` says it to the proofs.
 #[derive(Drop)]
 pub struct Draft {
-    pub records: [Record; 128],
-    pub len: usize,
+    pub records: ArrayVec<Record, 128>,
     pub number: u32,
     pub shift: u8,
-    pub reference: [Sample; 4],
-    pub antennas: usize,
-    ghost few: { len ≤ 128 },
-    ghost whole: { length records ≡ 128 },
-    ghost sized: { prefix_len measured records ≡ 128 },
+    pub reference: Option<ArrayVec<Sample, 4>>,
+    ghost few: { array_vec_len records ≤ 128 },
+    ghost sized: { prefix_len measured records.items ≡ array_vec_len records },
     ghost low: { shift ≤ 40 },
-    ghost four: { length reference ≡ 4 },
-    ghost tuned: { prefix_len fine reference ≡ 4 },
-    ghost most: { antennas ≤ 4 },
+    ghost tuned: { ForSome reference (λ y. prefix_len fine y.items ≡ array_vec_len y) },
 }

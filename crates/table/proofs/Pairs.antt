@@ -1,29 +1,12 @@
 -- Records with their values: what writing over the values, and over a record, does to them.
-use Rattle.std.proofs.Common.{◌≡◌, ℕ, zero, suc, ◌+◌, ◌-◌, ◌*◌, ◌<◌, ◌≤◌, List, [], ◌∷◌, ◌++◌, map, length, get_or, take, drop, set, replicate, ℤ, pos, sym, refl, ap, ◌∙◌, ap₂, not-suc-le-zero, suc-mul, mul-le-mul, zero-add, arith}
-use Rattle.std.proofs.lemmas.List.{length-drop}
+use Rattle.std.proofs.Common.{◌≡◌, ℕ, zero, suc, ◌+◌, ◌-◌, ◌*◌, ◌<◌, ◌≤◌, List, [], ◌∷◌, ◌++◌, map, length, get_or, take, drop, set, replicate, ℤ, pos, sym, refl, ap, ◌∙◌, ap₂, not-suc-le-zero, suc-mul, zero-add, arith}
+use Rattle.std.proofs.Math.Seq.{take-append_seam, drop-append_seam}
+use Rattle.std.proofs.lemmas.List.{length-drop, take-append-le, drop-append-le, take-replicate, drop-replicate}
 use Rattle.observation.specs.declared.Record.{Record}
 use Rattle.protocol.specs.Calls.{at_symbol, told, spread}
 use Rattle.table.specs.Kept.{over, paired, blank}
 
 module _ {X : Type 0} where
-  take_past : (m : ℕ) (zs ws : List X) → m ≤ length zs → take m (zs ++ ws) ≡ take m zs
-  take_past zero zs ws h = refl
-  take_past (suc m) [] ws h = absurd (not-suc-le-zero h)
-  take_past (suc m) (z ∷ zs) ws h = ap (λ r. z ∷ r) (take_past m zs ws (omega arith))
-
-  drop_past : (m : ℕ) (zs ws : List X) → m ≤ length zs → drop m (zs ++ ws) ≡ drop m zs ++ ws
-  drop_past zero zs ws h = refl
-  drop_past (suc m) [] ws h = absurd (not-suc-le-zero h)
-  drop_past (suc m) (z ∷ zs) ws h = drop_past m zs ws (omega arith)
-
-  pub take_front : (zs ws : List X) → take (length zs) (zs ++ ws) ≡ zs
-  take_front [] ws = refl
-  take_front (z ∷ zs) ws = ap (λ r. z ∷ r) (take_front zs ws)
-
-  pub drop_front : (zs ws : List X) → drop (length zs) (zs ++ ws) ≡ ws
-  drop_front [] ws = refl
-  drop_front (z ∷ zs) ws = drop_front zs ws
-
   -- writing past the first m leaves them
   pub over_past : (m a : ℕ) (zs xs : List X) → m ≤ length xs → (take m (over (m + a) zs xs) ≡ take m xs) × (drop m (over (m + a) zs xs) ≡ over a zs (drop m xs))
   over_past zero a zs xs h = (refl, ap (λ n. over n zs xs) (zero-add a))
@@ -39,7 +22,7 @@ module _ {X : Type 0} where
       )
 
   over_first : (zs xs : List X) → (take (length zs) (over 0 zs xs) ≡ zs) × (drop (length zs) (over 0 zs xs) ≡ drop (length zs) xs)
-  over_first zs xs = (take_front zs _, drop_front zs _ ∙ ap (λ n. drop n xs) (zero-add (length zs)))
+  over_first zs xs = (take-append_seam zs _, drop-append_seam zs _ ∙ ap (λ n. drop n xs) (zero-add (length zs)))
 
 module _ (m : ℕ) where
   pub length-paired : (rs : List Record) (zs : List ℤ) → length (paired m rs zs) ≡ length rs
@@ -72,40 +55,20 @@ module _ (m : ℕ) where
       let n : suc (length rs) * m ≡ m + length rs * m = omega (arith, suc-mul (length rs) m) in
       let h : m ≤ length zs = omega arith in
       let k : length (drop m zs) ≡ length rs * m = omega (arith, length-drop m zs) in
-      ap₂ (λ p q. record { symbol = r; priors = p } ∷ paired m rs q) (take_past m zs ws h) (drop_past m zs ws h)
+      ap₂ (λ p q. record { symbol = r; priors = p } ∷ paired m rs q) (take-append-le m zs ws h) (drop-append-le m zs ws h)
       ∙ ap (λ q. record { symbol = r; priors = take m zs } ∷ q) (paired_all rs (drop m zs) ws (drop m xs) k)
 
   -- one record is changed
-  pub paired-set : (f : Record → Record) (n : ℕ) (rs : List Record) (i : ℕ) (zs : List ℤ) → i < n → n ≤ length rs →
-      paired m (take n (set rs i (f (get_or rs i blank)))) zs ≡ at_symbol (λ y. record { symbol = f y.symbol; priors = y.priors }) i (paired m (take n rs) zs)
-  paired-set f zero rs i zs h l = absurd (not-suc-le-zero h)
-  paired-set f (suc n) [] i zs h l = absurd (not-suc-le-zero l)
-  paired-set f (suc n) (r ∷ rs) zero zs h l = refl
-  paired-set f (suc n) (r ∷ rs) (suc i) zs h l = ap (λ q. record { symbol = r; priors = take m zs } ∷ q) (paired-set f n rs i (drop m zs) (omega arith) (omega arith))
+  pub paired-set : (f : Record → Record) (rs : List Record) (i : ℕ) (zs : List ℤ) → i < length rs →
+      paired m (set rs i (f (get_or rs i blank))) zs ≡ at_symbol (λ y. record { symbol = f y.symbol; priors = y.priors }) i (paired m rs zs)
+  paired-set f [] i zs h = absurd (not-suc-le-zero h)
+  paired-set f (r ∷ rs) zero zs h = refl
+  paired-set f (r ∷ rs) (suc i) zs h = ap (λ q. record { symbol = r; priors = take m zs } ∷ q) (paired-set f rs i (drop m zs) (omega arith))
 
   -- no value told yet
   pub paired-fresh : (rs : List Record) (n : ℕ) → length rs * m ≤ n → paired m rs (replicate n (pos 0)) ≡ map (λ r. record { symbol = r; priors = replicate m (pos 0) }) rs
   paired-fresh [] n h = refl
   paired-fresh (r ∷ rs) n h =
       let s : suc (length rs) * m ≡ m + length rs * m = omega (arith, suc-mul (length rs) m) in
-      ap₂ (λ p q. record { symbol = r; priors = p } ∷ paired m rs q) (taken m n (omega arith)) (dropped m n)
+      ap₂ (λ p q. record { symbol = r; priors = p } ∷ paired m rs q) (take-replicate m n (pos 0) (omega arith)) (drop-replicate m n (pos 0))
       ∙ ap (λ q. record { symbol = r; priors = replicate m (pos 0) } ∷ q) (paired-fresh rs (n - m) (omega arith))
-    where
-      taken : (m n : ℕ) → m ≤ n → take m (replicate n (pos 0)) ≡ replicate m (pos 0)
-      taken zero n h = refl
-      taken (suc m) zero h = absurd (not-suc-le-zero h)
-      taken (suc m) (suc n) h = ap (λ r. pos 0 ∷ r) (taken m n (omega arith))
-
-      dropped : (m n : ℕ) → drop m (replicate n (pos 0)) ≡ replicate (n - m) (pos 0)
-      dropped zero n = ap (λ k. replicate k (pos 0)) (let e : n ≡ n - 0 = omega arith in e)
-      dropped (suc m) zero = ap (λ k. replicate k (pos 0)) (let e : 0 ≡ 0 - suc m = omega arith in e)
-      dropped (suc m) (suc n) = dropped m n ∙ ap (λ k. replicate k (pos 0)) (let e : n - m ≡ suc n - suc m = omega arith in e)
-
--- a symbol's values end within the table
-pub symbol_room : (n m i : ℕ) → n ≤ 128 → m ≤ 8 → 1 ≤ i → i ≤ n → (i - 1) * m + m ≤ 1024
-symbol_room n m i a b c d =
-    let e : suc (i - 1) * m ≡ (i - 1) * m + m = omega (arith, suc-mul (i - 1) m) in
-    let f : i ≡ suc (i - 1) = omega arith in
-    let h : i ≤ 128 = omega arith in
-    let g : i * m ≤ 128 * 8 = mul-le-mul h b in
-    omega (arith, ap (λ k. k * m) f)

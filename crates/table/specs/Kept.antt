@@ -16,7 +16,6 @@ over a zs xs = take a xs ++ (zs ++ drop (a + length zs) xs)
 -- a table without what is proved of it
 pub record View : Type 0 where
   pub records : List Record
-  pub len : ℕ
   pub priors : List ℤ
   pub number : ℕ
   pub shift : ℕ
@@ -24,7 +23,7 @@ pub record View : Type 0 where
   pub out : Bool
 
 abbrev pub view : Table → View
-view t = record { records = t.records; len = t.len; priors = t.priors; number = t.number; shift = t.shift; given = t.given; out = t.out }
+view t = record { records = t.records.items; priors = t.priors; number = t.number; shift = t.shift; given = t.given; out = t.out }
 
 -- records with their a priori values, m to a record
 abbrev pub paired : ℕ → List Record → List ℤ → List (Placed Record)
@@ -33,23 +32,23 @@ paired m (r ∷ rs) zs = record { symbol = r; priors = take m zs } ∷ paired m 
 
 -- the state of a burst over the constellation M that has this table
 abbrev pub kept : Meaning → View → State Record
-kept M v = record { meaning = M; number = v.number; shift = v.shift; symbols = paired M.m (take v.len v.records) v.priors; given = v.given; out = v.out }
+kept M v = record { meaning = M; number = v.number; shift = v.shift; symbols = paired M.m v.records v.priors; given = v.given; out = v.out }
 
 abbrev pub outlined : ℕ → View → Outline
-outlined m v = record { count = v.len; m = m; number = v.number; given = v.given; out = v.out }
+outlined m v = record { count = length v.records; m = m; number = v.number; given = v.given; out = v.out }
 
 -- past the end of every table
 abbrev pub blank : Record
 blank = record { z_re = pos 0; z_im = pos 0; y_energy = 0; h_energy = 0; weight = 0 }
 
-abbrev pub fresh : List Record → ℕ → ℕ → ℕ → View
-fresh records len number shift = record { records = records; len = len; priors = replicate 1024 (pos 0); number = number; shift = shift; given = 0; out = false }
+abbrev pub fresh : List Record → ℕ → ℕ → View
+fresh records number shift = record { records = records; priors = replicate 1024 (pos 0); number = number; shift = shift; given = 0; out = false }
 
 abbrev pub with_priors : View → List ℤ → View
-with_priors v zs = record { records = v.records; len = v.len; priors = zs; number = v.number; shift = v.shift; given = v.given; out = v.out }
+with_priors v zs = record { records = v.records; priors = zs; number = v.number; shift = v.shift; given = v.given; out = v.out }
 
 abbrev pub idle : View → View
-idle v = record { records = v.records; len = v.len; priors = v.priors; number = v.number; shift = v.shift; given = v.given; out = false }
+idle v = record { records = v.records; priors = v.priors; number = v.number; shift = v.shift; given = v.given; out = false }
 
 -- what a call of the table leaves: by its verdict
 abbrev pub tell_left : Verdict → ℕ → View → ℕ → List ℤ → View
@@ -65,11 +64,11 @@ withdraw_left (Ok _) v = idle v
 withdraw_left (Err _) v = v
 
 abbrev pub erase_left : Verdict → View → ℕ → View
-erase_left (Ok _) v i = record { records = slice_set v.records (i - 1) (erased_record (slice_index_or v.records (i - 1) blank)); len = v.len; priors = v.priors; number = v.number; shift = v.shift; given = v.given; out = v.out }
+erase_left (Ok _) v i = record { records = slice_set v.records (i - 1) (erased_record (slice_index_or v.records (i - 1) blank)); priors = v.priors; number = v.number; shift = v.shift; given = v.given; out = v.out }
 erase_left (Err _) v i = v
 
 abbrev pub issued : View → View
-issued v = record { records = v.records; len = v.len; priors = v.priors; number = v.number; shift = v.shift; given = v.given + 1; out = true }
+issued v = record { records = v.records; priors = v.priors; number = v.number; shift = v.shift; given = v.given + 1; out = true }
 
 -- a refused answer gives the turn back
 abbrev pub returned : Verdict → Turn → Result (Unit {0}) (Turn × Refusal)

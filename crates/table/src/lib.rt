@@ -2,6 +2,7 @@
 
 #![tactic(auto)]
 
+mod checks;
 mod edits;
 mod range;
 mod table;

@@ -1,6 +1,7 @@
 //! The range of a priori values.
 
-ghost use Rattle.std.specs.Prelude.{◌≡◌};
+ghost use Rattle.std.specs.Prelude.{◌≡◌, length, OnOk};
+ghost use Rattle.std.specs.List.{prefix_len};
 ghost use Rattle.refusal.specs.declared.Cause.TheVariants.{Range};
 ghost use Rattle.protocol.specs.Verdicts.{inside, each, accepted};
 
@@ -12,12 +13,14 @@ const MOST: i16 = 8191;
 fn sound(value: i16) -> bool
     ensures { result ≡ inside value }
 {
-    -MOST <= value && value <= MOST
+    (-MOST..=MOST).contains(&value)
 }
 
 /// Refused at the first value that is outside -8191 to 8191, its position counted from 1.
+/// A rule of the project: one loop over the values with their index, which stops at the first that is outside.
 pub fn in_range(values: &[i16]) -> Result<(), Refusal>
-    ensures { result ≡ each inside values.now Range accepted }
+    ensures reply { result ≡ each inside values.now Range accepted }
+    ensures all { OnOk result (prefix_len inside values.now ≡ length values.now) }
 {
     for (i, value) in values.iter().enumerate() {
         if !sound(*value) {

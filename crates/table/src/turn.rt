@@ -6,3 +6,13 @@ pub struct Turn {
     pub(crate) burst: u32,
     pub(crate) number: u32,
 }
+
+impl Turn {
+    /// The turn is no more.
+    pub(crate) fn spend(self) {
+        let Turn {
+            burst: _,
+            number: _,
+        } = self;
+    }
+}

@@ -1,14 +1,7 @@
-use Rattle.std.proofs.Common.{refl}
-use Rattle.table.specs.Kept.{view}
-use Rattle.burst.proofs.Lifting.{Whole, tell_called}
+use Rattle.burst.proofs.Lifting.{tell_said}
 use Rattle.burst.proofs.burst.Burst.tell.Goals as goal
 
-pub returns : goal.returns
-returns g c =
+pub returns-clause-told : goal.returns-clause-told
+returns-clause-told g c =
     let b = c.args.self.now in
-    let t = b.table in
-    let W : Whole (view t) = record { few = t.few; whole = t.whole; wide = t.wide } in
-    record {
-      told = tell_called (g.C.Constellation.meaning b.c) (g.met.C.Constellation.lawful b.c).m_most (view t) W c.m-m.result c.args.symbol c.args.values.now c.tell.result (view c.tell.new.self) c.m-m.ensures c.tell.ensures.reply c.tell.ensures.left;
-      same = refl;
-    }
+    tell_said _ b.table c.tell.new.self _ _ _ _ (g.met.C.Constellation.lawful b.c).m_most c.m-m.ensures c.tell.ensures.reply c.tell.ensures.left
