@@ -8,7 +8,7 @@ use crate::element::Element;
 pub(crate) fn blanks<T: Element>(cells: &mut [T])
     ensures { cells.new ≡ replicate (length cells.old) T.BLANK }
 {
-    // `fill` asks for a clone that cannot fail, which no bound gives.
+    // `fill` was tried: it asks for a clone that cannot fail, and a bound `Copy` does not say so.
     for cell in cells.iter_mut() {
         *cell = T::BLANK;
     }
