@@ -14,13 +14,9 @@ const LONGEST: usize = 16384;
 /// One line a symbol: the sheet has `m` values of each.
 fn show(rt: &impl Print, sheet: &[i16], symbols: usize, m: usize) -> io::Result<()> {
     println!(rt; "{symbols} {m}")?;
-    let mut rest = sheet;
-    for i in 0..symbols {
-        let Some((values, after)) = rest.split_at_checked(m) else {
-            return Ok(());
-        };
-        show_symbol(rt, i + 1, values)?;
-        rest = after;
+    // `m` is 2 to 8; `max` tells the check that it is not 0.
+    for (number, values) in (1..=symbols).zip(sheet.chunks_exact(m.max(1))) {
+        show_symbol(rt, number, values)?;
     }
     Ok(())
 }

@@ -35,12 +35,11 @@ fn main(rt: HostRuntime) -> io::Result<()> {
         Ok((symbols, m)) => println!(rt; "a burst of {symbols} symbols of {m} positions")?,
         Err(refusal) => return println!(rt; "{refusal}"),
     }
-    let mut values = [0i16; 12];
-    values.copy_from_slice(&soft[0..12]);
+    let values = &mut soft[..12];
     let mut out = [0i16; 12];
     let mut bytes = [0u8; 24];
     println!(rt; "extrinsic values {values:?}")?;
-    if let Err(refusal) = spread(&mut values, &mut out, &mut bytes) {
+    if let Err(refusal) = spread(values, &mut out, &mut bytes) {
         return println!(rt; "refused {refusal}");
     }
     println!(rt; "interleaved {out:?}")?;

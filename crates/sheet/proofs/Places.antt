@@ -1,6 +1,10 @@
 -- How a table is turned, element by element.
-use Rattle.std.proofs.Common.{◌≡◌, ℕ, zero, suc, ◌+◌, ◌*◌, ◌/◌, ◌%◌, ◌<◌, ◌≢◌, List, [], ◌∷◌, length, get_or, set, refl, ap, ◌∙◌, mul_comm, zero-mul, arith, below_more}
-use Rattle.std.proofs.lemmas.List.{get_or-set_same, get_or-set_other, get_or_default, same_lists}
+use Rattle.std.proofs.Common.{◌≡◌, ℕ, zero, suc, ◌+◌, ◌-◌, ◌*◌, ◌/◌, ◌%◌, ◌<◌, ◌≤◌, List, [], ◌∷◌, length, get_or, set, refl, sym, ap, ◌∙◌, inl, inr, mul_comm, add-mul, zero-mul, arith, rules}
+use borrow.Rule.Slice.PartMut.{put_mid}
+use Rattle.std.proofs.lemmas.Bool.{cases_lt}
+use Rattle.std.proofs.lemmas.Grind.{common_steps}
+use Rattle.std.proofs.lemmas.List.{get_or_default, get_or_read, length-set, same_lists, places}
+use Rattle.std.proofs.lemmas.List.Edits.{fill_by_more}
 use Rattle.std.proofs.lemmas.Nat.{mul-add-lt, div-mul-add, mod-mul-add, div_below, mod_below, div-add-mod'}
 use Rattle.std.proofs.lemmas.List.FromFn.{fill_by_all, length-map-range_with_len, get_or-map-range_with_len}
 use Rattle.sheet.specs.Order.{stored, arranged, interleaved, Columnwise}
@@ -16,17 +20,62 @@ stored_at rows columns r c p =
     let n = div-mul-add c rows r p in
     cc
 
--- the first element of a list of elements f k of xs, k below n, is written: one more
-pub turned_more : {X : Type 0} (f : ℕ → ℕ) (xs ys : List X) (k : ℕ) (v : X) → k < length ys → ((j : ℕ) (d : X) → j < k → get_or ys j d ≡ get_or xs (f j) d) → ((d : X) → v ≡ get_or xs (f k) d) → (j : ℕ) (d : X) → j < k + 1 → get_or (set ys k v) j d ≡ get_or xs (f j) d
-turned_more {X} f xs ys k v l below here j d =
-    below_more (λ (j : ℕ). get_or (set ys k v) j d ≡ get_or xs (f j) d) k
-    (λ j h. let ne : j ≢ k = omega arith in get_or-set_other ys k j v d ne ∙ below j d h)
-    (get_or-set_same ys k v d l ∙ here d) j
+-- ys has room for column c of xs, and its first n elements are those of the column
+pub record Along {X : Type 0} (rows columns c n : ℕ) (xs ys : List X) : Type 0 where
+  pub long : length ys ≡ rows
+  pub each : (r : ℕ) (d : X) → r < n → get_or ys r d ≡ get_or xs (r * columns + c) d
 
-pub turned_all : {X : Type 0} (f : ℕ → ℕ) (xs ys : List X) → length ys ≡ length xs → ((j : ℕ) (d : X) → j < length xs → get_or ys j d ≡ get_or xs (f j) d) → ys ≡ arranged f xs
-turned_all f [] [] e h = refl
-turned_all f [] (y ∷ ys) e h = absurd (omega arith)
-turned_all f (x ∷ xs) ys e h = fill_by_all (λ k. get_or (x ∷ xs) (f k) x) ys (length (x ∷ xs)) x e (λ k l. h k x l)
+-- the first n columns of xs lie in ys, one after another
+pub record Dealt {X : Type 0} (rows columns n : ℕ) (xs ys : List X) : Type 0 where
+  pub each : (k : ℕ) (d : X) → k < n * rows → get_or ys k d ≡ get_or xs (stored rows columns k) d
+
+pub along_none : {X : Type 0} (rows columns c : ℕ) (xs ys : List X) → length ys ≡ rows → Along rows columns c 0 xs ys
+along_none rows columns c xs ys e = record { long = e; each = λ r d l. absurd (omega arith) }
+
+pub along_more : {X : Type 0} (rows columns c r : ℕ) (xs ys : List X) (v : X) → Along rows columns c r xs ys → r < rows → c < columns → length xs ≡ rows * columns → v ≡ get_or xs (r * columns + c) v → Along rows columns c (r + 1) xs (set ys r v)
+along_more rows columns c r xs ys v h l m w e = record {
+  long = length-set ys r v ∙ h.long;
+  each = λ k d p.
+      let b = place_below rows columns r c l m in
+      let i : r < length ys = omega (arith, h.long) in
+      let e = get_or_read xs (r * columns + c) v (omega arith) e d in
+      rw e (fill_by_more (λ r. get_or xs (r * columns + c) d) ys r d i (λ k q. h.each k d q) k p);
+}
+
+pub dealt_none : {X : Type 0} (rows columns : ℕ) (xs ys : List X) → Dealt rows columns 0 xs ys
+dealt_none rows columns xs ys = record { each = λ k d l. absurd (omega (arith, zero-mul rows)) }
+
+-- a part that is written from a on
+put_below : {X : Type 0} (a n : ℕ) (xs ys : List X) (k : ℕ) (d : X) → k < a → a ≤ length xs → get_or (put_mid a n xs ys) k d ≡ get_or xs k d
+put_below a n xs ys k d l h = search (rules, places)
+
+put_at : {X : Type 0} (a n : ℕ) (xs ys : List X) (j k : ℕ) (d : X) → k ≡ a + j → j < length ys → a ≤ length xs → get_or (put_mid a n xs ys) k d ≡ get_or ys j d
+put_at a n xs ys j k d e l h = search (rules, places)
+
+pub dealt_more : {X : Type 0} (rows columns c a n : ℕ) (xs ys column : List X) → Dealt rows columns c xs ys → Along rows columns c rows xs column → a ≡ c * rows → a + rows ≤ length ys → Dealt rows columns (c + 1) xs (put_mid a n ys column)
+dealt_more rows columns c a n xs ys column before here s h =
+    let e = here.long in
+    record {
+      each = λ k d l.
+          elim (cases_lt k a) [
+            | inl p ↦ put_below a n ys column k d p (omega arith) ∙ before.each k d (omega arith)
+            | inr p ↦
+                let m : (c + 1) * rows ≡ c * rows + rows = omega (arith, add-mul c 1 rows) in
+                let r : k - a < rows = omega arith in
+                let at : k ≡ a + (k - a) = omega arith in
+                let at' : c * rows + (k - a) ≡ k = omega arith in
+                put_at a n ys column (k - a) k d at (omega arith) (omega arith)
+                ∙ here.each (k - a) d (omega arith)
+                ∙ ap (λ j. get_or xs j d) (sym (stored_at rows columns (k - a) c r) ∙ ap (stored rows columns) at')
+          ];
+    }
+
+pub dealt_all : {X : Type 0} (rows columns : ℕ) (xs ys : List X) → Dealt rows columns columns xs ys → length ys ≡ rows * columns → length xs ≡ rows * columns → ys ≡ interleaved rows columns xs
+dealt_all rows columns [] [] h e f = refl
+dealt_all rows columns [] (y ∷ ys) h e f = absurd (omega arith)
+dealt_all rows columns (x ∷ xs) ys h e f =
+    let swap = mul_comm rows columns in
+    fill_by_all (λ k. get_or (x ∷ xs) (stored rows columns k) x) ys (length (x ∷ xs)) x (omega arith) (λ k l. h.each k x (omega arith))
 
 -- what an arrangement holds
 pub length-arranged : {X : Type 0} (f : ℕ → ℕ) (xs : List X) → length (arranged f xs) ≡ length xs
@@ -80,3 +129,6 @@ interleaved_columnwise rows columns xs e =
           let s = stored_at rows columns r c p in
           get_or-arranged (stored rows columns) xs (c * rows + r) d (omega arith) (omega arith) ∙ ap (λ j. get_or xs j d) s;
     }
+
+-- what the loop over a column needs
+pub ruleset dealing = (along_none, along_more, common_steps)

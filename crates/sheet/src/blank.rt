@@ -6,10 +6,10 @@ use crate::element::Element;
 
 /// Makes every element blank.
 pub(crate) fn blanks<T: Element>(cells: &mut [T])
-    ensures { cells.new ≡ replicate (length cells.old) T.Element.empty }
+    ensures { cells.new ≡ replicate (length cells.old) T.BLANK }
 {
-    let blank = T::empty();
-    for i in 0..cells.len() {
-        cells[i] = blank;
+    // `fill` was tried: it asks for a clone that cannot fail, and a bound `Copy` does not say so.
+    for cell in cells.iter_mut() {
+        *cell = T::BLANK;
     }
 }

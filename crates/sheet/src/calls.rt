@@ -4,7 +4,7 @@ ghost use Rattle.sheet.specs.Calls.{Same, Interleaved, Deinterleaved, Wiped, Pag
 
 use crate::blank::blanks;
 use crate::element::Element;
-use crate::length::{exactly, fit};
+use crate::length::exactly;
 use crate::order::turn;
 use crate::paper::bytes;
 use crate::table::Sheet;
@@ -15,8 +15,8 @@ impl<'a, T: Copy> Sheet<'a, T> {
     pub fn interleave(&self, out: &mut [T]) -> Result<(), Refusal>
         ensures { Interleaved self.now out.old result out.new }
     {
-        fit(self.rows, self.columns, self.cells.len())?;
-        exactly(out.len(), self.rows * self.columns)?;
+        self.fit()?;
+        exactly(out.len(), self.cells.len())?;
         turn(self.rows, self.columns, self.cells, out);
         Ok(())
     }
@@ -26,8 +26,8 @@ impl<'a, T: Copy> Sheet<'a, T> {
         ensures told { Deinterleaved self.old from.now result self.new }
         ensures same { Same self.old self.new }
     {
-        fit(self.rows, self.columns, self.cells.len())?;
-        exactly(from.len(), self.rows * self.columns)?;
+        self.fit()?;
+        exactly(from.len(), self.cells.len())?;
         turn(self.columns, self.rows, from, self.cells);
         Ok(())
     }
@@ -36,20 +36,20 @@ impl<'a, T: Copy> Sheet<'a, T> {
 impl<'a, T: Element> Sheet<'a, T> {
     /// Makes every element blank.
     pub fn wipe(&mut self) -> Result<(), Refusal>
-        ensures told { Wiped T.Element.empty self.old result self.new }
+        ensures told { Wiped T.BLANK self.old result self.new }
         ensures same { Same self.old self.new }
     {
-        fit(self.rows, self.columns, self.cells.len())?;
+        self.fit()?;
         blanks(self.cells);
         Ok(())
     }
 
     /// Writes the bytes of the elements into `out`, row after row, the high byte of each first.
     pub fn page(&self, out: &mut [u8]) -> Result<(), Refusal>
-        ensures { Paged T.Element.size T.Element.coded T.Element.decoded self.now out.old result out.new }
+        ensures { Paged T.WIDTH T.coded T.decoded self.now out.old result out.new }
     {
-        fit(self.rows, self.columns, self.cells.len())?;
-        exactly(out.len(), self.rows * self.columns * T::size())?;
+        self.fit()?;
+        exactly(out.len(), self.cells.len() * T::WIDTH)?;
         bytes(self.cells, out)
     }
 }

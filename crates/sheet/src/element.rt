@@ -9,12 +9,16 @@ use crate::length::exactly;
 use refusal::Refusal;
 
 /// An element with a blank and with bytes.
-///
-/// Code over any element knows nothing of a trait's constants, so each kind ties them to its meaning by `empty` and `size`.
 pub trait Element: Copy {
-    ghost empty: { Self };
+    /// What a wiped table holds.
+    const BLANK: Self;
 
-    ghost size: { ℕ };
+    /// How many bytes an element has.
+    const WIDTH: usize;
+
+    ghost BLANK: { Self };
+
+    ghost WIDTH: { ℕ };
 
     /// The bytes of an element, the high one first.
     ghost coded: { Self → List ℕ };
@@ -22,56 +26,34 @@ pub trait Element: Copy {
     /// The element that some bytes say.
     ghost decoded: { List ℕ → Self };
 
-    /// What a wiped table holds.
-    const BLANK: Self;
-
-    /// How many bytes an element has.
-    const WIDTH: usize;
-
-    /// `BLANK`.
-    fn empty() -> Self
-        ensures { result ≡ empty };
-
-    /// `WIDTH`.
-    fn size() -> usize
-        ensures { result ≡ size };
-
     /// Writes the bytes, which say the element again, into `out`, which has room for just them.
     fn put(self, out: &mut [u8]) -> Result<(), Refusal>
-        ensures answer { result ≡ reply (length out.old) size }
+        ensures answer { result ≡ reply (length out.old) WIDTH }
         ensures bytes { out.new ≡ after result (coded self) out.old }
         ensures back { decoded (coded self) ≡ self };
 
-    ghost wide: { (x : Self) → length (coded x) ≡ size };
+    ghost wide: { (x : Self) → length (coded x) ≡ WIDTH };
 
-    ghost narrow: { size ≤ 8 };
+    ghost narrow: { WIDTH ≤ 8 };
 }
 
 /// A hard bit, in one byte.
 impl Element for u8 {
-    ghost empty = { 0 };
+    const BLANK: u8 = 0;
 
-    ghost size = { 1 };
+    const WIDTH: usize = 1;
+
+    ghost BLANK = { 0 };
+
+    ghost WIDTH = { 1 };
 
     ghost coded = { λ x. x ∷ [] };
 
     ghost decoded = { λ bs. slice_index bs 0 };
 
-    const BLANK: u8 = 0;
-
-    const WIDTH: usize = 1;
-
     ghost wide = { Prim.search rules };
 
     ghost narrow = { Prim.search rules };
-
-    fn empty() -> u8 {
-        Self::BLANK
-    }
-
-    fn size() -> usize {
-        Self::WIDTH
-    }
 
     fn put(self, out: &mut [u8]) -> Result<(), Refusal> {
         exactly(out.len(), Self::WIDTH)?;
@@ -82,29 +64,21 @@ impl Element for u8 {
 
 /// A soft value, in two bytes.
 impl Element for i16 {
-    ghost empty = { pos 0 };
+    const BLANK: i16 = 0;
 
-    ghost size = { 2 };
+    const WIDTH: usize = 2;
+
+    ghost BLANK = { pos 0 };
+
+    ghost WIDTH = { 2 };
 
     ghost coded = { λ x. bytes16 (word16 x) };
 
     ghost decoded = { λ bs. signed16 (number16 bs) };
 
-    const BLANK: i16 = 0;
-
-    const WIDTH: usize = 2;
-
     ghost wide = { Prim.search rules };
 
     ghost narrow = { Prim.search rules };
-
-    fn empty() -> i16 {
-        Self::BLANK
-    }
-
-    fn size() -> usize {
-        Self::WIDTH
-    }
 
     fn put(self, out: &mut [u8]) -> Result<(), Refusal> {
         exactly(out.len(), Self::WIDTH)?;

@@ -1,8 +1,9 @@
 //! The tests that come before any call.
 
-ghost use Rattle.std.specs.Prelude.{◌≡◌};
-ghost use Rattle.sheet.specs.Calls.{reply, fitting};
+ghost use Rattle.std.specs.Prelude.{◌≡◌, length};
+ghost use Rattle.sheet.specs.Calls.{reply, fitting, held};
 
+use crate::table::Sheet;
 use refusal::{Cause, Refusal};
 
 /// The most rows, and the most columns, of a table.
@@ -18,12 +19,14 @@ pub(crate) fn exactly(count: usize, needed: usize) -> Result<(), Refusal>
     Ok(())
 }
 
-/// Refuses a table that is too large, and then one that has other than `count` elements.
-pub(crate) fn fit(rows: usize, columns: usize, count: usize) -> Result<(), Refusal>
-    ensures { result ≡ fitting rows columns count }
-{
-    if rows > LIMIT || columns > LIMIT {
-        return Err(Cause::Length.at(0));
+impl<'a, T> Sheet<'a, T> {
+    /// Refuses a table that is too large, and then one that has another number of elements.
+    pub(crate) fn fit(&self) -> Result<(), Refusal>
+        ensures { result ≡ fitting self.now.rows self.now.columns (length (held self.now)) }
+    {
+        if self.rows > LIMIT || self.columns > LIMIT {
+            return Err(Cause::Length.at(0));
+        }
+        exactly(self.cells.len(), self.rows * self.columns)
     }
-    exactly(count, rows * columns)
 }

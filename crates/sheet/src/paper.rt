@@ -9,15 +9,15 @@ use refusal::Refusal;
 
 /// Writes the bytes of every element, one element after another.
 pub(crate) fn bytes<T: Element>(cells: &[T], out: &mut [u8]) -> Result<(), Refusal>
-    requires room { length out.old ≡ length cells.now * T.Element.size }
+    requires room { length out.old ≡ length cells.now * T.WIDTH }
     ensures answer { result ≡ Ok tt }
-    ensures told { out.new ≡ flat_map T.Element.coded cells.now }
-    ensures back { read_back T.Element.size T.Element.decoded (length cells.now) out.new ≡ cells.now }
+    ensures told { out.new ≡ flat_map T.coded cells.now }
+    ensures back { read_back T.WIDTH T.decoded (length cells.now) out.new ≡ cells.now }
 {
-    let width = T::size();
-    for i in 0..cells.len() {
-        let at = i * width;
-        cells[i].put(&mut out[at..at + width])?;
+    // `chunks_exact_mut` would cut the rooms, but a proof knows nothing of bytes that are written through it, and `WIDTH` may be 0.
+    for (i, cell) in cells.iter().enumerate() {
+        let at = i * T::WIDTH;
+        cell.put(&mut out[at..at + T::WIDTH])?;
     }
     Ok(())
 }

@@ -13,15 +13,11 @@ use crate::say::{say, say_positions, say_value};
 use crate::turns::{answered_turn, foreign_turn};
 use burst::{Burst, OpenBurst};
 use kinds::psk::Psk;
-use refusal::Refusal;
 use std::io;
 
 /// A shift above 40 opens nothing.
 fn refused_opening(rt: &HostRuntime) -> io::Result<()> {
-    let reply: Result<(), Refusal> = match OpenBurst::open(Psk::Four, 1, 41) {
-        Ok(_) => Ok(()),
-        Err(refusal) => Err(refusal),
-    };
+    let reply = OpenBurst::open(Psk::Four, 1, 41).map(|_| ());
     say(rt, "open burst 1 over PSK 4 with shift 41", reply)
 }
 
@@ -56,9 +52,11 @@ fn play(rt: &HostRuntime, near: &mut Burst<Psk>, far: &mut Burst<Psk>) -> io::Re
 }
 
 /// Places the symbols of both bursts, closes them and plays.
-fn place_and_play(rt: &HostRuntime, near: OpenBurst<Psk>, far: OpenBurst<Psk>) -> io::Result<()> {
-    let mut near = near;
-    let mut far = far;
+fn place_and_play(
+    rt: &HostRuntime,
+    mut near: OpenBurst<Psk>,
+    mut far: OpenBurst<Psk>,
+) -> io::Result<()> {
     say(rt, "open burst 2 over PSK 8 with shift 24", Ok(()))?;
     place_symbols(rt, &mut near, &mut far)?;
     let mut near = near.close();

@@ -1,5 +1,5 @@
-use Rattle.std.proofs.Common.{◌≡◌, ℕ, ◌<◌, get_or}
+use Rattle.std.proofs.Common.{◌≡◌, take, replicate}
 use Rattle.sheet.proofs.blank.blanks.Given as goal
 
-abbrev pub invariant-loop-i : goal.invariant-loop-i
-invariant-loop-i g l = (k : ℕ) → k < l.i → get_or l.cells k l.blank ≡ l.blank
+abbrev pub invariant-loop-cell : goal.invariant-loop-cell
+invariant-loop-cell g l = take l.cell-index l.cells ≡ replicate l.cell-index g.T.Element.BLANK

@@ -1,34 +1,24 @@
-use Rattle.std.proofs.Common.{◌≡◌, ℕ, ◌+◌, ◌*◌, ◌≤◌, length, get_or, sym, refl, ap, ◌∙◌, arith, rules, below_more}
-use Rattle.std.proofs.lemmas.List.{get_or_read}
-use Rattle.sheet.proofs.Pages.{next_within, page_step, page_end, read_joined, taken}
+use Rattle.std.proofs.Common.{◌≡◌, length, take, ◌∙◌, arith, ap}
+use Rattle.std.specs.List.{flat_map}
+use Rattle.std.proofs.lemmas.List.{take_all}
+use Rattle.std.proofs.lemmas.List.Elements.{All-more}
+use Rattle.std.proofs.lemmas.Grind.{common_steps, rows}
+use Rattle.sheet.proofs.Pages.{page_step, read_joined}
 use Rattle.sheet.proofs.paper.bytes.Goals as goal
 
-pub slice_bounds-put-end : goal.slice_bounds-put-end
-slice_bounds-put-end g c =
-    let w = c.size-width.result in
-    let e : length c.args.cells.now * w ≡ length c.args.cells.now * g.T.Element.size = ap (λ n. length c.args.cells.now * n) c.size-width.ensures in
-    let p = next_within c.loop-i.i (length c.args.cells.now) w c.loop-i-test.true in
-    let q : c.loop-i.i * w + w ≤ length c.loop-i.out = omega arith in
-    search rules
-
 pub loop-i-preserved : goal.loop-i-preserved
-loop-i-preserved g c = (
-  page_step g.T.Element.coded c.size-width.result (λ x. g.met.T.Element.wide x ∙ sym c.size-width.ensures)
-      c.args.cells.now c.args.out.now c.loop-i.out c.loop-i.i _ c.index-cells-i.result c.put.new.out
-      c.loop-i-test.true (omega arith) c.index-cells-i.is
-      (taken c.put.result c.put.new.out _ _ c.in_ok-put.was c.put.ensures.bytes) c.loop-i.invariant.0,
-  λ k d l. below_more (λ (k : ℕ). g.T.Element.decoded (g.T.Element.coded (get_or c.args.cells.now k d)) ≡ get_or c.args.cells.now k d) c.loop-i.i
-      (λ k l. c.loop-i.invariant.1 k d l)
-      (let e = get_or_read c.args.cells.now c.loop-i.i c.index-cells-i.result c.loop-i-test.true c.index-cells-i.is d in
-      let b = c.put.ensures.back in
-      cc) k l,
-)
+loop-i-preserved g c =
+    let x = c.index-cells-i.result in
+    let y : c.put.new.out ≡ g.T.Element.coded x = c.in_ok-put.ensures.bytes in
+    let b = c.put.ensures.back in
+    record {
+      written = page_step g.T.Element.coded c.args.cells.now c.loop-i.i g.T.Element.WIDTH _ _ x c.loop-i.out c.put.new.out c.loop-i-test.true c.index-cells-i.is y (ap length y ∙ g.met.T.Element.wide x) (cc) (grind (arith, common_steps, rows)) c.loop-i.invariant.written;
+      back = All-more (λ x. g.T.Element.decoded (g.T.Element.coded x) ≡ x) _ _ x c.loop-i-test.true c.loop-i.invariant.back (cc);
+    }
 
-pub returns : goal.returns
-returns g c =
-    let e : c.loop-i.out ≡ _ =
-    page_end g.T.Element.coded c.size-width.result (λ x. g.met.T.Element.wide x ∙ sym c.size-width.ensures)
-    c.args.cells.now c.args.out.now c.loop-i.out c.loop-i.i (omega arith)
-    (c.requires.room ∙ ap (λ n. length c.args.cells.now * n) (sym c.size-width.ensures)) c.loop-i.invariant.0 in
-    let b = read_joined g.T.Element.coded g.T.Element.size g.met.T.Element.wide g.T.Element.decoded c.args.cells.now (λ k d l. c.loop-i.invariant.1 k d (omega arith)) in
-    record { answer = refl; told = e; back = cc }
+pub returns-clause-back : goal.returns-clause-back
+returns-clause-back g c =
+    let t : take c.loop-i.i c.args.cells.now ≡ c.args.cells.now = take_all _ _ (omega arith) in
+    let o : c.loop-i.out ≡ flat_map g.T.Element.coded c.args.cells.now = grind (arith, common_steps) in
+    let h = c.loop-i.invariant.back in
+    rw o (read_joined g.T.Element.coded g.T.Element.WIDTH g.met.T.Element.wide g.T.Element.decoded c.args.cells.now (rw t at h))
