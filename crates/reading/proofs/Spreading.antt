@@ -45,8 +45,8 @@ module _ {X : Type 0} (m : ℕ) where
 abbrev pub told_to : ℕ → State Record → List ℤ → State Record
 told_to i k zs = with_symbols k (spread_to i k.meaning.m k.symbols zs)
 
-pub told-start : (k : State Record) (zs : List ℤ) → k ≡ told_to 0 k zs
-told-start k zs = refl
+pub told_start : (k : State Record) (zs : List ℤ) (i : ℕ) → i ≡ 0 → k ≡ told_to i k zs
+told_start k zs i e = rw e
 
 -- a telling of m values in range is accepted
 tell_accepted : (o : Outline) (i : ℕ) (row : List ℤ) → i < o.count → o.out ≡ false → length row ≡ o.m → prefix_len inside row ≡ length row → verdict o (tell (i + 1) row) ≡ accepted
