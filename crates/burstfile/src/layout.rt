@@ -32,6 +32,7 @@ fn take_settings(bytes: &[u8]) -> Result<(Settings, &[u8]), Refusal>
 }
 
 /// Section 3 of a file of `total` bytes: how many records there are, their bytes, and the rest.
+#[tactic(auto, using(crate::proofs::Cuts::records_step))]
 fn take_records(
     total: usize,
     settings: Settings,
@@ -51,6 +52,7 @@ fn take_records(
 }
 
 /// Section 4, and the end.
+#[tactic(auto, using(crate::proofs::Cuts::priors_step))]
 fn take_priors<'a>(
     total: usize,
     settings: Settings,

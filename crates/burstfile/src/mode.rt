@@ -85,7 +85,7 @@ impl Mode {
     }
 
     /// How many symbols so many records are: a differential mode spends the first on the reference.
-    pub fn symbols(self, count: u16) -> u16
+    fn symbols(self, count: u16) -> u16
         ensures { result ≡ symbols_of (mode_number self) count }
     {
         match self.placing() {
@@ -95,7 +95,7 @@ impl Mode {
     }
 
     /// Whether so many records may come with so many a priori values: none, or one for each bit.
-    pub fn allows_priors(self, count: u16, priors: u16) -> bool
+    pub(crate) fn allows_priors(self, count: u16, priors: u16) -> bool
         ensures { result ≡ priors_allowed (mode_number self) count priors }
     {
         priors == 0 || priors as u32 == self.symbols(count) as u32 * self.bits() as u32

@@ -20,7 +20,7 @@ moved c d a b p q r e f h =
     (subst (λ (s : Catalogue). Called (closed_kept (catalogue_meaning s) a) p r (closed_kept (catalogue_meaning s) b)) e h)
 
 some_bytes : (n : ℕ) (b : Bool) → b ≡ eqb n 0 → b ≡ false → 0 < n
-some_bytes zero b e f = let z : ◌≡◌ {A = ℕ} 0 1 = cc in absurd (omega arith)
+some_bytes zero b e f = cc
 some_bytes (suc n) b e f = omega arith
 
 -- n chunks of m values
