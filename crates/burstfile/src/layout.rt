@@ -12,6 +12,7 @@ use crate::view::{File, Settings};
 use refusal::{Cause, Refusal};
 
 /// Sections 1 and 2, and the rest.
+#[tactic(auto, using(crate::proofs::Cuts::settings_step))]
 fn take_settings(bytes: &[u8]) -> Result<(Settings, &[u8]), Refusal>
     ensures { MatchResult result (λ p. cut bytes.now ≡ cut_vectors (length bytes.now) (mode_number p.0.mode) p.0.shift p.0.antennas p.1.now) (λ e. cut bytes.now ≡ Err e) }
 {

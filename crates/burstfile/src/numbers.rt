@@ -42,7 +42,9 @@ fn inside_before(priors: &[u8]) -> Option<usize>
     ensures fits { IfSome result (λ before. before < length priors.now) }
 {
     let (values, _odd) = priors.as_chunks::<2>();
-    values.iter().position(|bytes| i16::from_be_bytes(*bytes).unsigned_abs() > LARGEST)
+    values
+        .iter()
+        .position(|bytes| value(bytes).unsigned_abs() > LARGEST)
 }
 
 /// The position, from 1, of the first a priori value outside -8191 to 8191.

@@ -58,10 +58,6 @@ module _ (n size i : ℕ) (bs rest : List ℕ) (whole : length bs ≡ n * size) 
         let e : (i + 1) * size ≡ i * size + size = rw add-one (suc-mul i size) in
         sym (drop_at x r size len) ∙ (ap (λ (l : List ℕ). drop size l) (sym next ∙ is) ∙ rw e (drop-drop size (i * size) bs))
 
-    -- the chunk is record i
-    pub chunk_record : (a : ℕ) (v : Vector) → v ≡ vector_of a x → v ≡ get_or (vectors_of n size a bs) i v
-    chunk_record a v e = e ∙ (ap (vector_of a) chunk_here ∙ sym (vector-at n i size a bs v chunk_within))
-
 -- the numbers of chunk i, of m each
 pub chunk_row : (m i : ℕ) (bs x : List ℕ) → x ≡ take (2 * m) (drop (i * (2 * m)) bs) → signeds_of x ≡ take m (drop (i * m) (signeds_of bs))
 chunk_row m i bs x e =

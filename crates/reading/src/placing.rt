@@ -12,7 +12,7 @@ ghost use Rattle.reading.specs.Held.{samples_of, placing_of, Filled};
 use arrayvec::ArrayVec;
 use burst::OpenBurst;
 use burstfile::{
-    File, FileRefusal, InRecord, Mode, Placing, RecordView, Settings, pair, record_view,
+    File, FileRefusal, InRecord, Mode, Placing, RecordView, pair, record_view,
 };
 use catalogue::Catalogue;
 use observation::Sample;
@@ -67,16 +67,12 @@ pub fn place_all(
     requires shape { Shape (contents_of (laid file)) }
     ensures { MatchResult result (λ b. Filled (contents_of (laid file.entry)) c number b) (λ e. values_fault (contents_of (laid file.entry)) ≡ Some e) }
 {
-    let Settings {
-        mode,
-        shift,
-        antennas,
-    } = file.settings;
-    let mut burst = OpenBurst::open(c, number, shift)?;
-    let size = file.settings.record_size();
+    let settings = file.settings;
+    let mut burst = OpenBurst::open(c, number, settings.shift)?;
+    let size = settings.record_size();
     for (i, bytes) in file.records.chunks_exact(size).enumerate() {
-        let record = record_view(antennas, bytes);
-        place_record(&mut burst, mode, record).in_record(number_of(i))?;
+        let record = record_view(settings.antennas, bytes);
+        place_record(&mut burst, settings.mode, record).in_record(number_of(i))?;
     }
     Ok(burst)
 }

@@ -12,12 +12,12 @@ use Rattle.burstfile.specs.declared.refused.FileRefusal.{FileRefusal}
 use Rattle.burstfile.specs.Refused.{numbered}
 use Rattle.burstfile.specs.Modes.{mode_number}
 use Rattle.burstfile.specs.Format.{symbols_of}
-use Rattle.burstfile.specs.Reading.{laid, contents_of, shown}
+use Rattle.burstfile.specs.Reading.{laid, size_of, contents_of, shown}
 use Rattle.burstfile.specs.Values.{or_else, numbered_fault, priors_fault, values_fault}
 use Rattle.burstfile.proofs.Numbered.{numbered_ok, numbered_err}
 use Rattle.reading.specs.Held.{placing_of, placed_all}
-use Rattle.reading.proofs.Chunks.{chunks_past, chunk_within, chunk_after, chunk_record}
-use Rattle.reading.proofs.Walking.{along_start, along_step, along_refused, along_end, shift_refused, shift_passed}
+use Rattle.reading.proofs.Chunks.{chunks_past, chunk_within}
+use Rattle.reading.proofs.Walking.{along_start, turn_within, turn_after, turn_passed, turn_refused, along_end, shift_refused, shift_passed}
 use Rattle.reading.proofs.placing.place_all.Goals as goal
 
 -- a placing over one constellation is one over its equal
@@ -27,13 +27,12 @@ moved c d a b p r e h = subst (λ (q : Catalogue). PlacedBy (open_kept (catalogu
 
 pub number_of-requires : goal.number_of-requires
 number_of-requires c =
-    let f = c.args.file in
-    let n = c.record_size-size.result in
+    let l = laid c.args.file in
+    let b = c.in_ok-burst.burst in
     let it = c.loop-i.i-iterator in
-    let next = c.next.new.self in
     let st = c.in-Some.ensures.steps in
-    let whole : length f.records.now ≡ f.count * n = c.requires.whole.records ∙ ap (λ (s : ℕ). f.count * s) (sym c.record_size-size.ensures) in
-    let lt : it.count < f.count = chunk_within f.count n it.count f.records.now it.iter.rest.now whole c.loop-i.invariant.rest c.in-Some.bytes.now next.iter.rest.now (omega (arith, c.record_size-size.ensures)) st.0.1.0 (st.0.1.1 ∙ c.loop-i.invariant.size) in
+    let lt : it.count < l.count = chunk_within l.count (size_of l) it.count l.records it.iter.rest.now c.requires.whole.records
+    (rw c.record_size-size.ensures at c.loop-i.invariant.rest) c.in-Some.bytes.now c.next.new.self.iter.rest.now (omega arith) st.0.1.0 (st.0.1.1 ∙ (c.loop-i.invariant.size ∙ c.record_size-size.ensures)) in
     omega (arith, st.1, c.requires.shape.count, c.requires.whole.vectors)
 
 pub loop-i-init : goal.loop-i-init
@@ -55,63 +54,49 @@ loop-i-init c =
 
 pub loop-i-preserved : goal.loop-i-preserved
 loop-i-preserved c =
-    let f = c.args.file in
-    let C = contents_of (laid f) in
+    let l = laid c.args.file in
     let b = c.in_ok-burst.burst in
-    let n = c.record_size-size.result in
+    let o = opened (catalogue_meaning b.c) c.args.number l.shift in
     let it = c.loop-i.i-iterator in
-    let next = c.next.new.self in
+    let left = c.next.new.self.iter.rest.now in
+    let x = c.in-Some.bytes.now in
     let st = c.in-Some.ensures.steps in
     let v = shown c.record_view-record.result in
     let r = c.place_record.result in
-    let d = c.loop-i.burst.draft in
-    let d' = c.place_record.new.burst.draft in
-    let P = moved c.loop-i.burst.c b.c d d' (placing_of (mode_number f.settings.mode) v) r c.loop-i.invariant.same c.place_record.ensures.placed in
-    let whole : length f.records.now ≡ f.count * n = c.requires.whole.records ∙ ap (λ (s : ℕ). f.count * s) (sym c.record_size-size.ensures) in
-    let some : 0 < n = omega (arith, c.record_size-size.ensures) in
-    let len : length c.in-Some.bytes.now ≡ n = st.0.1.1 ∙ c.loop-i.invariant.size in
-    let lt : it.count < f.count = chunk_within f.count n it.count f.records.now it.iter.rest.now whole c.loop-i.invariant.rest c.in-Some.bytes.now next.iter.rest.now some st.0.1.0 len in
-    let lt' : it.count < length C.vectors = omega (arith, c.requires.whole.vectors, lt) in
-    let at = chunk_record f.count n it.count f.records.now it.iter.rest.now whole c.loop-i.invariant.rest c.in-Some.bytes.now next.iter.rest.now some st.0.1.0 len f.settings.antennas v c.record_view-record.ensures.entry in
-    let is : v ≡ get_or C.vectors it.count v = rw c.record_size-size.ensures at at in
-    let said : c.in_record.result ≡ numbered (it.count + 1) r = c.in_record.ensures ∙ ap (λ (k : ℕ). numbered k r) (c.number_of.ensures ∙ ap (λ (k : ℕ). k + 1) st.1) in
-    let ok : r ≡ Ok tt = numbered_ok (it.count + 1) r c.in_record.result c.in_ok-in_record.field-0 said c.in_ok-in_record.was in
-    let along = along_step C c.requires.shape (opened (catalogue_meaning b.c) c.args.number f.settings.shift) it.count (open_kept (catalogue_meaning b.c) d) (open_kept (catalogue_meaning b.c) d') v r lt' is c.loop-i.invariant.along P ok in
+    let k = open_kept (catalogue_meaning b.c) c.loop-i.burst.draft in
+    let k' = open_kept (catalogue_meaning b.c) c.place_record.new.burst.draft in
+    let P = moved c.loop-i.burst.c b.c c.loop-i.burst.draft c.place_record.new.burst.draft (placing_of l.mode v) r c.loop-i.invariant.same c.place_record.ensures.placed in
+    let len = st.0.1.1 ∙ c.loop-i.invariant.size in
+    let said : c.in_record.result ≡ numbered (c.in-Some.i + 1) r = c.in_record.ensures ∙ ap (λ (n : ℕ). numbered n r) c.number_of.ensures in
+    let ok : r ≡ Ok tt = numbered_ok (c.in-Some.i + 1) r c.in_record.result c.in_ok-in_record.field-0 said c.in_ok-in_record.was in
     record {
-      along = rw st.2 along;
-      few = omega (arith, st.2, lt);
+      along = rw st.2 (turn_passed l c.requires.shape o c.record_size-size.result it.count c.in-Some.i k k' it.iter.rest.now x left v r c.record_size-size.ensures c.requires.whole.records c.loop-i.invariant.rest st.0.1.0 len st.1 c.record_view-record.ensures.entry c.loop-i.invariant.along P ok);
+      few = omega (arith, st.2, turn_within l c.requires.shape o c.record_size-size.result it.count c.in-Some.i k k' it.iter.rest.now x left v r c.record_size-size.ensures c.requires.whole.records c.loop-i.invariant.rest st.0.1.0 len st.1 c.record_view-record.ensures.entry c.loop-i.invariant.along P);
       same = c.place_record.ensures.same ∙ c.loop-i.invariant.same;
       size = st.0.0 ∙ c.loop-i.invariant.size;
-      rest = rw st.2 (chunk_after f.count n it.count f.records.now it.iter.rest.now whole c.loop-i.invariant.rest c.in-Some.bytes.now next.iter.rest.now some st.0.1.0 len);
+      rest = rw st.2 (turn_after l c.requires.shape o c.record_size-size.result it.count c.in-Some.i k k' it.iter.rest.now x left v r c.record_size-size.ensures c.requires.whole.records c.loop-i.invariant.rest st.0.1.0 len st.1 c.record_view-record.ensures.entry c.loop-i.invariant.along P);
     }
 
 pub returns-in_err-in_record : goal.returns-in_err-in_record
 returns-in_err-in_record c =
-    let f = c.args.file in
-    let C = contents_of (laid f) in
+    let l = laid c.args.file in
+    let C = contents_of l in
     let b = c.in_ok-burst.burst in
-    let n = c.record_size-size.result in
+    let o = opened (catalogue_meaning b.c) c.args.number l.shift in
     let it = c.loop-i.i-iterator in
-    let next = c.next.new.self in
+    let left = c.next.new.self.iter.rest.now in
+    let x = c.in-Some.bytes.now in
     let st = c.in-Some.ensures.steps in
     let v = shown c.record_view-record.result in
     let r = c.place_record.result in
-    let d = c.loop-i.burst.draft in
-    let d' = c.place_record.new.burst.draft in
-    let P = moved c.loop-i.burst.c b.c d d' (placing_of (mode_number f.settings.mode) v) r c.loop-i.invariant.same c.place_record.ensures.placed in
-    let whole : length f.records.now ≡ f.count * n = c.requires.whole.records ∙ ap (λ (s : ℕ). f.count * s) (sym c.record_size-size.ensures) in
-    let some : 0 < n = omega (arith, c.record_size-size.ensures) in
-    let len : length c.in-Some.bytes.now ≡ n = st.0.1.1 ∙ c.loop-i.invariant.size in
-    let lt : it.count < f.count = chunk_within f.count n it.count f.records.now it.iter.rest.now whole c.loop-i.invariant.rest c.in-Some.bytes.now next.iter.rest.now some st.0.1.0 len in
-    let lt' : it.count < length C.vectors = omega (arith, c.requires.whole.vectors, lt) in
-    let at = chunk_record f.count n it.count f.records.now it.iter.rest.now whole c.loop-i.invariant.rest c.in-Some.bytes.now next.iter.rest.now some st.0.1.0 len f.settings.antennas v c.record_view-record.ensures.entry in
-    let is : v ≡ get_or C.vectors it.count v = rw c.record_size-size.ensures at at in
-    let said : c.in_record.result ≡ numbered (it.count + 1) r = c.in_record.ensures ∙ ap (λ (k : ℕ). numbered k r) (c.number_of.ensures ∙ ap (λ (k : ℕ). k + 1) st.1) in
-    let e = numbered_err (it.count + 1) r c.in_record.result c.in_err-in_record.field-0.0 said c.in_err-in_record.was in
-    let refused = along_refused C c.requires.shape (opened (catalogue_meaning b.c) c.args.number f.settings.shift) it.count (open_kept (catalogue_meaning b.c) d) (open_kept (catalogue_meaning b.c) d') v r lt' is c.loop-i.invariant.along P e.0 e.2 in
-    let o = c.in_ok-burst.ensures in
+    let k = open_kept (catalogue_meaning b.c) c.loop-i.burst.draft in
+    let k' = open_kept (catalogue_meaning b.c) c.place_record.new.burst.draft in
+    let P = moved c.loop-i.burst.c b.c c.loop-i.burst.draft c.place_record.new.burst.draft (placing_of l.mode v) r c.loop-i.invariant.same c.place_record.ensures.placed in
+    let said : c.in_record.result ≡ numbered (c.in-Some.i + 1) r = c.in_record.ensures ∙ ap (λ (n : ℕ). numbered n r) c.number_of.ensures in
+    let e = numbered_err (c.in-Some.i + 1) r c.in_record.result c.in_err-in_record.field-0.0 said c.in_err-in_record.was in
+    let refused = turn_refused l c.requires.shape o c.record_size-size.result it.count c.in-Some.i k k' it.iter.rest.now x left v r c.record_size-size.ensures c.requires.whole.records c.loop-i.invariant.rest st.0.1.0 (st.0.1.1 ∙ c.loop-i.invariant.size) st.1 c.record_view-record.ensures.entry c.loop-i.invariant.along P e.0 e.2 in
     let fault : values_fault C ≡ Some c.in_err-in_record.field-0.0
-    = shift_passed (leb C.shift 40) _ _ o.0
+    = shift_passed (leb C.shift 40) _ _ c.in_ok-burst.ensures.0
     ∙ (ap (λ (q : Option FileRefusal). or_else q (numbered_fault 0 (priors_fault 1 C.priors))) refused ∙ ap (λ (x : FileRefusal). Some x) (sym e.1)) in
     let p = err_from_is_err_and c.from_residual-in_err-in_record.result c.from_residual-in_err-in_record.ensures.1 in
     rw (p.1, p.2) fault
