@@ -19,10 +19,10 @@ go_settings (a ∷ b ∷ c ∷ d ∷ bs) l3 settings l1 antennas =
     ap (λ (o : Option ℕ). unless_broken o (cut_antennas (length (a ∷ b ∷ c ∷ d ∷ bs)) b c (d ∷ bs))) settings
     ∙ ap (λ (o : Option ℕ). unless_broken o (cut_vectors (length (a ∷ b ∷ c ∷ d ∷ bs)) b c d bs)) antennas
 
-pub settings_step : (bs : List ℕ) → 3 ≤ length bs → broken_settings (get_or bs 0 0) (get_or bs 1 0) ≡ None
+pub settings_step : (mode : ℕ) (bs : List ℕ) → mode ≡ get_or bs 1 0 → 3 ≤ length bs → broken_settings (get_or bs 0 0) (get_or bs 1 0) ≡ None
     → 1 ≤ length (rest 3 bs) → broken_antennas (get_or (rest 3 bs) 0 0) ≡ None
-    → cut bs ≡ cut_vectors (length bs) (get_or bs 1 0) (get_or bs 2 0) (get_or (rest 3 bs) 0 0) (rest 1 (rest 3 bs))
-settings_step bs = simp take_rest (go_settings bs)
+    → cut bs ≡ cut_vectors (length bs) mode (get_or bs 2 0) (get_or (rest 3 bs) 0 0) (rest 1 (rest 3 bs))
+settings_step mode bs e = rw e (simp take_rest (go_settings bs))
 
 -- a count in two bytes
 abbrev pub counted : List ℕ → ℕ

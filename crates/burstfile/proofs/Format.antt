@@ -259,4 +259,4 @@ module _ (bs : List ℕ) where
       → MatchResult r (λ f. Shaped bs (contents_of (laid f))) (λ _. (c : Contents) → Shaped bs c → ⊥)
   shaped_sections (Ok f) bytes h = cut_is_encoded bs (laid f) bytes h
   shaped_sections (Err e) bytes h =
-      λ c w. let t = encoded_is_cut c w.1 in let z : ◌≡◌ {A = ℕ} 0 1 = cc (t.1, w.0, h) in omega arith
+      λ c w. let t = encoded_is_cut c w.1 in cc (t.1, w.0, h)

@@ -1,5 +1,5 @@
 -- Answers with the number of a record, and the walk over the records, for a reader that places them one by one.
-use Rattle.std.proofs.Common.{◌≡◌, ℕ, ◌+◌, ◌<◌, ◌≤◌, List, length, get_or, drop, Some, None, Ok, Err, Result, sym, ap, add-one, arith, drop-cons}
+use Rattle.std.proofs.Common.{◌≡◌, ℕ, ◌+◌, ◌<◌, ◌≤◌, List, length, get_or, drop, Some, None, Ok, Err, Result, sym, ap, add-one, drop-cons}
 use Rattle.std.proofs.lemmas.List.{drop_all}
 use Rattle.refusal.specs.declared.Refusal.{Refusal}
 use Rattle.burstfile.specs.declared.refused.FileRefusal.{FileRefusal}
@@ -11,12 +11,12 @@ use Rattle.burstfile.specs.Values.{vector_fault, vectors_fault}
 pub numbered_ok : {X : Type 0} (n : ℕ) (s : Result X Refusal) (r : Result X FileRefusal) (x : X)
     → r ≡ numbered n s → r ≡ Ok x → s ≡ Ok x
 numbered_ok n (Ok y) r x e f = cc
-numbered_ok n (Err d) r x e f = let z : ◌≡◌ {A = ℕ} 0 1 = cc in absurd (omega arith)
+numbered_ok n (Err d) r x e f = cc
 
 -- one that is refused with a number is refused without, and the number is this
 pub numbered_err : {X : Type 0} (n : ℕ) (s : Result X Refusal) (r : Result X FileRefusal) (y : FileRefusal)
     → r ≡ numbered n s → r ≡ Err y → (f : Refusal) × (y ≡ in_record n f) × (s ≡ Err f)
-numbered_err n (Ok d) r y e f = let z : ◌≡◌ {A = ℕ} 0 1 = cc in absurd (omega arith)
+numbered_err n (Ok d) r y e f = cc
 numbered_err n (Err d) r y e f = (d, cc, cc)
 
 -- the walk over the records at entry i, which is record i + 1

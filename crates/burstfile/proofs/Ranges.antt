@@ -4,17 +4,16 @@ use Rattle.std.proofs.lemmas.Bool.{le-leb, leb-true, cases_Bool}
 use Rattle.std.specs.List.{AllByRecursion}
 use Rattle.refusal.specs.declared.Refusal.{Refusal}
 use Rattle.burstfile.specs.declared.refused.FileRefusal.{FileRefusal}
-use Rattle.burstfile.specs.Refused.{in_record}
 use Rattle.burstfile.specs.Format.{Pair, Vector, Contents, PairInRange, VectorInRange, InRange, Rules, encode, symbols_of}
 use Rattle.burstfile.specs.Reading.{Layout, cut, contents_of}
 use Rattle.burstfile.specs.Values.{within, numbered_fault, pairs_fault, limit_of, vector_fault, vectors_fault, priors_fault, values_fault, judged, judged_cut, read_spec}
 use Rattle.burstfile.specs.Theorem.{Bytes, AcceptsEncodings}
-use Rattle.burstfile.proofs.Options.{some_none, or_none, cond_none}
+use Rattle.burstfile.proofs.Options.{or_none, cond_none}
 use Rattle.burstfile.proofs.Format.{cut_is_encoded, encoded_is_cut}
 
 number_none : (n : ℕ) (o : Option Refusal) → numbered_fault n o ≡ None → o ≡ None
 number_none n None e = refl
-number_none n (Some f) e = absurd (some_none (in_record n f) e)
+number_none n (Some f) e = cc
 
 pairs_good : (k : ℕ) (ps : List Pair) → pairs_fault k ps ≡ None → AllByRecursion PairInRange ps
 pairs_good k [] e = tt
@@ -87,14 +86,14 @@ good_values c g =
 
 judged_ok : (c d : Contents) (o : Option FileRefusal) → judged c o ≡ Ok d → (o ≡ None) × (c ≡ d)
 judged_ok c d None e = (refl, cc)
-judged_ok c d (Some f) e = let z : ◌≡◌ {A = ℕ} 0 1 = cc in absurd (omega arith)
+judged_ok c d (Some f) e = cc
 
 accepted : (bs : List ℕ) (c : Contents) (r : Result Layout Refusal) → Bytes bs → cut bs ≡ r → judged_cut r ≡ Ok c → (bs ≡ encode c) × Rules c
 accepted bs c (Ok l) bytes is e =
     let j = judged_ok (contents_of l) c (values_fault (contents_of l)) e in
     let t = cut_is_encoded bs l bytes is in
     subst (λ (d : Contents). (bs ≡ encode d) × Rules d) j.1 (t.0, record { shape = t.1; range = values_good (contents_of l) j.0 })
-accepted bs c (Err f) bytes is e = let z : ◌≡◌ {A = ℕ} 0 1 = cc in absurd (omega arith)
+accepted bs c (Err f) bytes is e = cc
 
 reads_encoding : (c : Contents) → Rules c → read_spec (encode c) ≡ Ok c
 reads_encoding c g =

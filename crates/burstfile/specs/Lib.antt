@@ -1,4 +1,5 @@
 pub mod Refused
+pub mod Modes
 pub mod Format
 pub mod Reading
 pub mod Values

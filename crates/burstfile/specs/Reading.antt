@@ -6,6 +6,7 @@ use Rattle.refusal.specs.declared.Cause.TheVariants.{Cut, Field}
 use Rattle.refusal.specs.declared.Refusal.{Refusal}
 use Rattle.burstfile.specs.declared.view.File.{File}
 use Rattle.burstfile.specs.declared.view.RecordView.{RecordView}
+use Rattle.burstfile.specs.Modes.{mode_number}
 use Rattle.burstfile.specs.Format.{Pair, Vector, Contents, vector_size, channel_of, symbols_of, bits_of}
 
 -- the settings, and the bytes of the records and of the a priori values
@@ -24,6 +25,11 @@ cut_at n = record { cause = Cut; place = n }
 -- the field at an offset breaks its rule
 abbrev pub broken_at : ℕ → Refusal
 broken_at offset = record { cause = Field; place = offset }
+
+-- the refusal of the field that breaks its rule, if there is one
+abbrev pub field_fault : Option ℕ → Option Refusal
+field_fault None = None
+field_fault (Some offset) = Some (broken_at offset)
 
 -- goes on where no field of a section breaks its rule; else the field at the offset is refused
 abbrev pub unless_broken : Option ℕ → Result Layout Refusal → Result Layout Refusal
@@ -89,7 +95,7 @@ cut bytes = cut_settings (length bytes) bytes
 -- the sections that the code hands back
 abbrev pub laid : File → Layout
 laid f = record {
-  mode = f.settings.mode;
+  mode = mode_number f.settings.mode;
   shift = f.settings.shift;
   antennas = f.settings.antennas;
   count = f.count;

@@ -1,12 +1,12 @@
 -- The first value that breaks its rule, in a file whose sections stand: what opening, placing and telling refuse, in that order.
-use Rattle.std.specs.Prelude.{ℕ, ◌+◌, ◌*◌, ◌<◌, ◌≤◌, Bool, cond, List, [], ◌∷◌, length, ℤ, pos, Some, None, Ok, Err, Option, Result, nat_le, slice_index_or, unsigned_abs}
+use Rattle.std.specs.Prelude.{ℕ, ◌+◌, ◌*◌, ◌<◌, ◌≤◌, Bool, cond, List, [], ◌∷◌, length, ℤ, pos, Some, None, Ok, Err, Option, Result, nat_le, nat_lt, slice_index, slice_index_or, unsigned_abs}
 use Rattle.refusal.specs.declared.Cause.{Cause}
 use Rattle.refusal.specs.declared.Cause.TheVariants.{Sample, Weight, Full, Shift, Range}
 use Rattle.refusal.specs.declared.Refusal.{Refusal}
 use Rattle.burstfile.specs.declared.refused.FileRefusal.{FileRefusal}
 use Rattle.burstfile.specs.Refused.{in_record}
 use Rattle.burstfile.specs.Format.{Pair, Vector, Contents}
-use Rattle.burstfile.specs.Reading.{Layout, cut, signeds_of, contents_of}
+use Rattle.burstfile.specs.Reading.{Layout, cut, signed_of, signeds_of, contents_of}
 
 -- the first of two that there is
 abbrev pub or_else : {X : Type 0} → Option X → Option X → Option X
@@ -49,6 +49,10 @@ vectors_fault mode number (v ∷ vs) = or_else (numbered_fault number (vector_fa
 abbrev pub priors_fault : ℕ → List ℤ → Option Refusal
 priors_fault k [] = None
 priors_fault k (z ∷ zs) = cond (within 8191 z) (priors_fault (k + 1) zs) (Some (fault_at Range k))
+
+-- two bytes hold a value outside −8191 to 8191
+abbrev pub is_outside : List ℕ → Bool
+is_outside bs = nat_lt 8191 (unsigned_abs (signed_of (slice_index bs 0) (slice_index bs 1)))
 
 -- the first n of the values that bytes hold are from −8191 to 8191
 abbrev pub InsideTo : List ℕ → ℕ → Type 0

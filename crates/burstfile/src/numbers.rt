@@ -1,8 +1,9 @@
 //! The signed numbers of a file, and the range of its a priori values.
 
-ghost use Rattle.std.specs.Prelude.{◌≡◌, ◌+◌, ◌-◌, ◌*◌, ◌/◌, ◌≤◌, length, take, drop, pos, Some, None, MatchOption, MatchResult, slice_index, slice_index_or};
+ghost use Rattle.std.specs.Prelude.{◌≡◌, ◌+◌, ◌-◌, ◌*◌, ◌/◌, ◌<◌, ◌≤◌, length, take, drop, pos, Some, None, IfSome, MatchOption, MatchResult, slice_index, slice_index_or, position};
+ghost use Rattle.std.specs.Simd.{first_chunks};
 ghost use Rattle.burstfile.specs.Reading.{signed_of, signeds_of, pair_of, pairs_of};
-ghost use Rattle.burstfile.specs.Values.{priors_fault, InsideTo, FirstOutside};
+ghost use Rattle.burstfile.specs.Values.{priors_fault, InsideTo, FirstOutside, is_outside};
 
 use refusal::{Cause, Refusal};
 
@@ -14,10 +15,7 @@ pub fn value(bytes: &[u8]) -> i16
     requires { 2 ≤ length bytes.now }
     ensures { result ≡ signed_of (slice_index bytes.now 0) (slice_index bytes.now 1) }
 {
-    let [high, low, ..] = bytes else {
-        unreachable();
-    };
-    i16::from_be_bytes([*high, *low])
+    i16::from_be_bytes([bytes[0], bytes[1]])
 }
 
 /// The real and the imaginary part of the pair that the bytes begin with.
@@ -26,12 +24,7 @@ pub fn pair(bytes: &[u8]) -> (i16, i16)
     ensures re { result.0 ≡ signed_of (slice_index bytes.now 0) (slice_index bytes.now 1) }
     ensures im { result.1 ≡ signed_of (slice_index bytes.now 2) (slice_index bytes.now 3) }
 {
-    let [a, b, c, d, ..] = bytes else {
-        unreachable();
-    };
-    let re = i16::from_be_bytes([*a, *b]);
-    let im = i16::from_be_bytes([*c, *d]);
-    (re, im)
+    (value(bytes), value(&bytes[2..]))
 }
 
 /// The part at `k`, from 0, of bytes in parts of equal size.
@@ -40,37 +33,27 @@ pub fn part(bytes: &[u8], k: usize, size: usize) -> &[u8]
     ensures value { result.now ≡ take size (drop (k * size) bytes.now) }
     ensures long { length result.now ≡ size }
 {
-    let (_before, rest) = bytes.split_at(k * size);
-    let (part, _after) = rest.split_at(size);
-    part
+    &bytes[k * size..][..size]
 }
 
-/// The number at `k`, from 0.
-pub fn value_at(values: &[u8], k: usize) -> i16
-    requires { k * 2 + 2 ≤ length values.now }
-    ensures { result ≡ slice_index_or (signeds_of values.now) k (pos 0) }
+/// How many values come before the first outside -8191 to 8191, if there is one.
+fn inside_before(priors: &[u8]) -> Option<usize>
+    ensures first { result ≡ position is_outside (first_chunks 2 (length priors.now / 2) priors.now) }
+    ensures fits { IfSome result (λ before. before < length priors.now) }
 {
-    value(part(values, k, 2))
-}
-
-/// The pair at `k`, from 0.
-pub fn pair_at(pairs: &[u8], k: usize) -> (i16, i16)
-    requires { k * 4 + 4 ≤ length pairs.now }
-    ensures { pair_of result.0 result.1 ≡ slice_index_or (pairs_of pairs.now) k (pair_of (pos 0) (pos 0)) }
-{
-    pair(part(pairs, k, 4))
+    let (values, _odd) = priors.as_chunks::<2>();
+    values
+        .iter()
+        .position(|bytes| value(bytes).unsigned_abs() > LARGEST)
 }
 
 /// The position, from 1, of the first a priori value outside -8191 to 8191.
+#[tactic(auto, using(crate::proofs::Walks::position_none, crate::proofs::Walks::position_some))]
 pub fn first_outside(priors: &[u8]) -> Option<usize>
     ensures { MatchOption result (InsideTo priors.now (length priors.now / 2)) (λ p. FirstOutside priors.now (p - 1) × (1 ≤ p)) }
 {
-    for k in 0..priors.len() / 2 {
-        if value_at(priors, k).unsigned_abs() > LARGEST {
-            return Some(k + 1);
-        }
-    }
-    None
+    let before = inside_before(priors)?;
+    Some(before + 1)
 }
 
 /// Refuses the first a priori value outside -8191 to 8191, at its position from 1.

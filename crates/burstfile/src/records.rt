@@ -2,18 +2,25 @@
 
 ghost use Rattle.std.specs.Prelude.{◌≡◌, ◌+◌, ◌*◌, ◌<◌, ◌≤◌, length, slice_index_or};
 ghost use Rattle.burstfile.specs.Reading.{Whole, laid, contents_of, vector_of, shown};
+ghost use Rattle.burstfile.specs.Modes.{mode_number};
 ghost use Rattle.burstfile.specs.Format.{vector_size, channel_of};
 
+use crate::mode::Placing;
 use crate::numbers::part;
 use crate::view::{File, RecordView, Settings};
 
-/// The bytes of a record.
-pub fn record_size(settings: Settings) -> usize
-    ensures { result ≡ vector_size settings.antennas (channel_of settings.mode settings.antennas) }
-{
-    let y = 4 * settings.antennas as usize;
-    let h = if settings.mode <= 8 { y } else { 0 };
-    2 + y + h
+impl Settings {
+    /// The bytes of a record.
+    pub fn record_size(self) -> usize
+        ensures { result ≡ vector_size self.antennas (channel_of (mode_number self.mode) self.antennas) }
+    {
+        let y = 4 * self.antennas as usize;
+        let h = match self.mode.placing() {
+            Placing::Coherent => y,
+            Placing::Differential => 0,
+        };
+        2 + y + h
+    }
 }
 
 /// Takes one record's bytes apart.
@@ -36,9 +43,9 @@ impl<'a> File<'a> {
         requires whole { Whole (laid self.now) }
         ensures entry { shown result ≡ slice_index_or (contents_of (laid self.now)).vectors i (shown result) }
         ensures y { length result.y.now ≡ 4 * self.now.settings.antennas }
-        ensures h { length result.h.now ≡ 4 * channel_of self.now.settings.mode self.now.settings.antennas }
+        ensures h { length result.h.now ≡ 4 * channel_of (mode_number self.now.settings.mode) self.now.settings.antennas }
     {
-        let size = record_size(self.settings);
+        let size = self.settings.record_size();
         record_view(self.settings.antennas, part(self.records, i as usize, size))
     }
 }

@@ -7,10 +7,10 @@ ghost use Rattle.burstfile.specs.Refused.{in_record, numbered, refused_text};
 use refusal::Refusal;
 use std::fmt;
 
-/// A refusal, kept whole, and the number of the record that it is in, from 1; 0 outside the records.
+/// A refusal, kept whole, and the number of the record that it is in, from 1, if it is in one.
 #[derive(Clone, Copy, PartialEq, Eq, Debug)]
 pub struct FileRefusal {
-    pub record: u16,
+    pub record: Option<u16>,
     pub refusal: Refusal,
 }
 
@@ -19,11 +19,14 @@ impl From<Refusal> for FileRefusal {
     ghost from_gives = { λ f r. r ≡ in_record 0 f };
 
     fn from(refusal: Refusal) -> FileRefusal {
-        FileRefusal { record: 0, refusal }
+        FileRefusal {
+            record: None,
+            refusal,
+        }
     }
 }
 
-/// Adds the number of the record that a refusal is in.
+/// Adds the number of the record that a refusal is in. Records count from 1: 0 is outside them.
 pub trait InRecord<T> {
     ghost says: { Self → ℕ → Result T FileRefusal → Type 0 };
 
@@ -35,10 +38,8 @@ impl<T> InRecord<T> for Result<T, Refusal> {
     ghost says = { λ s n r. r ≡ numbered n s };
 
     fn in_record(self, record: u16) -> Result<T, FileRefusal> {
-        match self {
-            Ok(x) => Ok(x),
-            Err(refusal) => Err(FileRefusal { record, refusal }),
-        }
+        let record = (record > 0).then_some(record);
+        self.map_err(|refusal| FileRefusal { record, refusal })
     }
 }
 
@@ -48,11 +49,9 @@ impl fmt::Display for FileRefusal {
 
     fn fmt<W: fmt::Write>(&self, f: &mut fmt::Formatter<W>) -> fmt::Result {
         let refusal = self.refusal;
-        let record = self.record;
-        if record == 0 {
-            write!(f, "refused {refusal}")
-        } else {
-            write!(f, "refused record {record}: {refusal}")
+        match self.record {
+            Some(record) => write!(f, "refused record {record}: {refusal}"),
+            None => write!(f, "refused {refusal}"),
         }
     }
 }

@@ -1,9 +1,11 @@
 //! A file and its records as parts of the file's bytes.
 
+use crate::mode::Mode;
+
 /// Sections 1 and 2.
 #[derive(Clone, Copy)]
 pub struct Settings {
-    pub mode: u8,
+    pub mode: Mode,
     pub shift: u8,
     pub antennas: u8,
 }

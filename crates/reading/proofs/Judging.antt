@@ -21,15 +21,15 @@ verdict_of (Some f) = Err f
 
 pub none_of : (o : Option Refusal) → verdict_of o ≡ Ok tt → o ≡ None
 none_of None e = refl
-none_of (Some f) e = let z : ◌≡◌ {A = ℕ} 0 1 = cc in absurd (omega arith)
+none_of (Some f) e = cc
 
 pub some_of_lem : (o : Option Refusal) (f : Refusal) → verdict_of o ≡ Err f → o ≡ Some f
-some_of_lem None f e = let z : ◌≡◌ {A = ℕ} 0 1 = cc in absurd (omega arith)
+some_of_lem None f e = cc
 some_of_lem (Some g) f e = cc
 
 -- no answer is both
 pub apart : {X : Type 0} (r : Result X Refusal) (x : X) (f : Refusal) → r ≡ Ok x → r ≡ Err f → ⊥
-apart r x f p q = let z : ◌≡◌ {A = ℕ} 0 1 = cc in omega arith
+apart r x f p q = cc
 
 -- the two tests of a part are one
 part-within : (z : ℤ) → part z ≡ within 1023 z

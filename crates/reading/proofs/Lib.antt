@@ -1,4 +1,5 @@
 pub mod Filling
+pub mod Chunks
 pub mod Judging
 pub mod Walking
 pub mod Spreading

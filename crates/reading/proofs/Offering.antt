@@ -1,8 +1,6 @@
 -- The ten modes.
-use Rattle.std.proofs.Common.{◌≡◌, ℕ, zero, suc, ◌≤◌, Some, None, Option, refl, arith}
-use Rattle.constellation.specs.Meaning.{Meaning}
-use Rattle.catalogue.specs.Modes.{mode_meaning, catalogue_meaning, Offered}
-use Rattle.catalogue.specs.declared.Catalogue.{Catalogue}
+use Rattle.std.proofs.Common.{◌≡◌, ℕ, zero, suc, ◌≤◌, refl, arith}
+use Rattle.catalogue.specs.Modes.{mode_meaning}
 use Rattle.burstfile.specs.Format.{bits_of}
 use Rattle.reading.specs.Held.{offered}
 
@@ -20,19 +18,6 @@ of_ten P a b c d e f g h i j (suc (suc (suc (suc (suc (suc (suc (suc zero)))))))
 of_ten P a b c d e f g h i j (suc (suc (suc (suc (suc (suc (suc (suc (suc zero))))))))) low high = i
 of_ten P a b c d e f g h i j (suc (suc (suc (suc (suc (suc (suc (suc (suc (suc zero)))))))))) low high = j
 of_ten P a b c d e f g h i j (suc (suc (suc (suc (suc (suc (suc (suc (suc (suc (suc n))))))))))) low high = absurd (omega arith)
-
--- each has a constellation
-pub offered-not : (mode : ℕ) → 1 ≤ mode → mode ≤ 10 → Offered (mode_meaning mode) None → ⊥
-offered-not = of_ten (λ n. Offered (mode_meaning n) None → ⊥) (λ x. x) (λ x. x) (λ x. x) (λ x. x) (λ x. x) (λ x. x) (λ x. x) (λ x. x) (λ x. x) (λ x. x)
-
--- the one that is not none
-pub offered_some : (mode : ℕ) → 1 ≤ mode → mode ≤ 10 → (o : Option Catalogue) → Offered (mode_meaning mode) o → ((c : Catalogue) → o ≡ Some c → ⊥) → ⊥
-offered_some mode low high None h f = offered-not mode low high h
-offered_some mode low high (Some c) h f = f c refl
-
-pub offered_is : (o : Option Meaning) (c : Catalogue) → Offered o (Some c) → catalogue_meaning c ≡ offered o
-offered_is (Some M) c h = h
-offered_is None c h = absurd h
 
 -- of as many bits as the format says
 pub offered-bits : (mode : ℕ) → 1 ≤ mode → mode ≤ 10 → (offered (mode_meaning mode)).m ≡ bits_of mode

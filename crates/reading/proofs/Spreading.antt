@@ -1,5 +1,5 @@
 -- Telling symbol after symbol spreads a list of values, m to a symbol.
-use Rattle.std.proofs.Common.{◌≡◌, ℕ, zero, suc, ◌+◌, ◌-◌, ◌*◌, ◌<◌, ◌≤◌, true, false, List, [], ◌∷◌, map, length, take, drop, ℤ, nat_abs, Ok, sym, refl, ap, ◌∙◌, ap₂, suc-mul, add_comm, zero-mul, add-one, arith}
+use Rattle.std.proofs.Common.{◌≡◌, ℕ, zero, suc, ◌+◌, ◌-◌, ◌*◌, ◌<◌, ◌≤◌, true, false, List, [], ◌∷◌, ◌++◌, map, length, take, drop, ℤ, nat_abs, Ok, sym, refl, ap, ◌∙◌, ap₂, subst, suc-mul, add_comm, zero-mul, add-one, arith}
 use Rattle.std.specs.List.{prefix_len, AllByRecursion}
 use Rattle.std.proofs.lemmas.List.{drop-drop, length-drop, length-take-le}
 use Rattle.std.proofs.lemmas.Bool.{eq-eqb, le-leb}
@@ -8,12 +8,15 @@ use Rattle.metric.specs.Exhaustive.{Symbol}
 use Rattle.observation.specs.declared.Record.{Record}
 use Rattle.observation.specs.Observed.{held}
 use Rattle.protocol.specs.Verdicts.{Verdict, accepted, inside, up_to}
-use Rattle.protocol.specs.Calls.{Placed, State, Outline, tell, verdict, outline, at_symbol, told, spread, with_symbols, leaves}
+use Rattle.protocol.specs.Calls.{Placed, State, Outline, Call, tell, verdict, outline, at_symbol, told, spread, with_symbols, leaves}
 use Rattle.protocol.specs.Stands.{Stands, placed_image, image, erased_record}
 use Rattle.protocol.proofs.Fronts.{front_take, front_drop}
 use Rattle.burst.specs.Public.{Called}
+use Rattle.soft.proofs.Rows.{row_room}
 use Rattle.burstfile.specs.Reading.{signeds_of}
+use Rattle.burstfile.proofs.Walks.{halves}
 use Rattle.reading.specs.Held.{told_all}
+use Rattle.reading.proofs.Chunks.{chunk_within, chunk_here, chunk_after, chunk_row}
 use Rattle.reading.proofs.Judging.{inside-within}
 
 -- the first i symbols have their values
@@ -45,8 +48,8 @@ module _ {X : Type 0} (m : ℕ) where
 abbrev pub told_to : ℕ → State Record → List ℤ → State Record
 told_to i k zs = with_symbols k (spread_to i k.meaning.m k.symbols zs)
 
-pub told-start : (k : State Record) (zs : List ℤ) → k ≡ told_to 0 k zs
-told-start k zs = refl
+pub told_start : (k : State Record) (zs : List ℤ) (i : ℕ) → i ≡ 0 → k ≡ told_to i k zs
+told_start k zs i e = rw e
 
 -- a telling of m values in range is accepted
 tell_accepted : (o : Outline) (i : ℕ) (row : List ℤ) → i < o.count → o.out ≡ false → length row ≡ o.m → prefix_len inside row ≡ length row → verdict o (tell (i + 1) row) ≡ accepted
@@ -77,6 +80,35 @@ module _ (k₀ k k' : State Record) (m i : ℕ) (zs : List ℤ) (v : Verdict) (i
       ∙ ap (λ (ys : List (Placed Record)). with_symbols k₀ ys)
       (ap₂ (λ (j : ℕ) (r : List ℤ). at_symbol (told r) j (spread_to i k₀.meaning.m k₀.symbols zs)) one row
       ∙ (spread-step k₀.meaning.m i k₀.symbols zs ∙ ap (λ (j : ℕ). spread_to j k₀.meaning.m k₀.symbols zs) (sym (add-one i))))))
+
+-- n chunks of m values
+pub in_chunks : (l n m w : ℕ) → l ≡ 2 * (n * w) → m ≡ w → l ≡ n * (2 * m)
+in_chunks l n m w e is = rw (e, is) (grind arith)
+
+-- the values of symbol i lie within the file's
+fits : (bs : List ℕ) (n m i : ℕ) → length bs ≡ n * (2 * m) → i < n → i * m + m ≤ length (signeds_of bs)
+fits bs n m i e lt =
+    let r : i * m + m ≤ n * m = row_room n m i lt in
+    let t : n * (2 * m) ≡ 2 * (n * m) = grind arith in
+    let h = halves bs in
+    omega (arith, h.1)
+
+-- a turn of the walk: chunk i of the bytes is told to symbol i
+module _ (k₀ k k' : State Record) (m i j : ℕ) (bs rest x r : List ℕ) (v : Verdict) (is : k ≡ told_to i k₀ (signeds_of bs)) (wide : m ≡ k₀.meaning.m) (idle : k₀.out ≡ false)
+    (all : prefix_len inside (signeds_of bs) ≡ length (signeds_of bs)) (whole : length bs ≡ length k₀.symbols * (2 * m)) (left : rest ≡ drop (i * (2 * m)) bs)
+    (some : 0 < 2 * m) (next : rest ≡ x ++ r) (len : length x ≡ 2 * m) (at : j ≡ i) (P : Called k (tell (j + 1) (signeds_of x)) v k') where
+  pub told_turn : (v ≡ Ok tt) × (k' ≡ told_to (i + 1) k₀ (signeds_of bs)) × (r ≡ drop ((i + 1) * (2 * m)) bs)
+  told_turn =
+      let zs = signeds_of bs in
+      let n = length k₀.symbols in
+      let lt : i < n = chunk_within n (2 * m) i bs rest whole left x r some next len in
+      let here : x ≡ take (2 * m) (drop (i * (2 * m)) bs) = chunk_here n (2 * m) i bs rest whole left x r some next len in
+      let call = ap₂ (λ (a : ℕ) (row : List ℤ). tell (a + 1) row) at (chunk_row m i bs x here) in
+      let Q = subst (λ (c : Call). Called k c v k') call P in (
+        told-accepted k₀ k k' m i zs v is wide lt idle all (fits bs n m i whole lt) Q,
+        told-step k₀ k k' m i zs v is wide lt idle all (fits bs n m i whole lt) Q,
+        chunk_after n (2 * m) i bs rest whole left x r some next len,
+      )
 
 -- no values, or all of them
 pub told_none : (k : State Record) (bs : List ℕ) → length bs ≡ 0 → k ≡ told_all k (signeds_of bs)

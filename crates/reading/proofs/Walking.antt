@@ -1,5 +1,5 @@
 -- The walk over the records: what is placed so far, and what is left of the file.
-use Rattle.std.proofs.Common.{◌≡◌, ℕ, zero, suc, ◌+◌, ◌-◌, ◌<◌, ◌≤◌, Bool, true, false, cond, leb, List, [], ◌∷◌, map, length, get_or, drop, Some, None, Ok, Err, Option, sym, refl, ap, ◌∙◌, subst, add-one, arith, length-append, drop-cons}
+use Rattle.std.proofs.Common.{◌≡◌, ℕ, zero, suc, ◌+◌, ◌-◌, ◌*◌, ◌<◌, ◌≤◌, Bool, true, false, cond, leb, List, [], ◌∷◌, ◌++◌, map, length, get_or, take, drop, Some, None, Ok, Err, Option, sym, refl, ap, ◌∙◌, subst, add-one, arith, length-append, drop-cons}
 use Rattle.std.specs.List.{AllByRecursion}
 use Rattle.std.proofs.lemmas.List.{length-map, drop_all}
 use Rattle.refusal.specs.declared.Refusal.{Refusal}
@@ -16,9 +16,13 @@ use Rattle.burst.specs.Public.{PlacedBy}
 use Rattle.burstfile.specs.declared.refused.FileRefusal.{FileRefusal}
 use Rattle.burstfile.specs.Refused.{in_record}
 use Rattle.burstfile.specs.Format.{Vector, VectorShape, Contents, Shape, channel_of, symbols_of}
+use Rattle.burstfile.specs.Reading.{Layout, size_of, vector_of, contents_of}
 use Rattle.burstfile.specs.Values.{fault_at, vector_fault, vectors_fault}
 use Rattle.burstfile.proofs.Numbered.{record_passed, record_refused, records_passed}
+use Rattle.burstfile.proofs.Trips.{length-vectors_of}
+use Rattle.burstfile.proofs.Walks.{vector-at}
 use Rattle.reading.specs.Held.{placing_of, placed_all}
+use Rattle.reading.proofs.Chunks.{chunk_within, chunk_here, chunk_after}
 use Rattle.reading.proofs.Judging.{RefBy, placing_by, verdict_of, none_of, some_of_lem, place-judged, samples_count}
 
 -- i records of the contents are placed, from o₀ on; k is what the burst keeps
@@ -92,6 +96,36 @@ module _ (C : Contents) (s : Shape C) (o₀ : OpenState Symbol) (i : ℕ) (k k' 
   pub along_refused : (f : Refusal) → r ≡ Err f → vectors_fault C.mode 1 C.vectors ≡ Some (in_record (i + 1) f)
   along_refused f e = sym A.faults ∙ record_refused C.mode C.vectors i v lt is f (some_of_lem _ f (sym reply ∙ e))
 
+-- a turn of the walk: the chunk after i others is record i of the file
+module _ (l : Layout) (s : Shape (contents_of l)) (o₀ : OpenState Symbol) (size i j : ℕ) (k k' : OpenState Record) (rest x r : List ℕ) (v : Vector) (res : Verdict)
+    (sized : size ≡ size_of l) (whole : length l.records ≡ l.count * size_of l) (left : rest ≡ drop (i * size) l.records) (next : rest ≡ x ++ r) (len : length x ≡ size) (at : j ≡ i)
+    (is : v ≡ vector_of l.antennas x) (A : Along (contents_of l) o₀ i k) (P : PlacedBy k (placing_of l.mode v) res k') where
+  whole_chunks : length l.records ≡ l.count * size
+  whole_chunks = whole ∙ ap (λ (n : ℕ). l.count * n) (sym sized)
+
+  some : 0 < size
+  some = omega (arith, sized)
+
+  pub turn_within : i < l.count
+  turn_within = chunk_within l.count size i l.records rest whole_chunks left x r some next len
+
+  counted : i < length (contents_of l).vectors
+  counted = omega (arith, turn_within, length-vectors_of l.count (size_of l) l.antennas l.records)
+
+  record_here : v ≡ get_or (contents_of l).vectors i v
+  record_here =
+      is ∙ (ap (vector_of l.antennas) (chunk_here l.count size i l.records rest whole_chunks left x r some next len ∙ ap (λ (n : ℕ). take n (drop (i * n) l.records)) sized)
+      ∙ sym (vector-at l.count i (size_of l) l.antennas l.records v turn_within))
+
+  pub turn_after : r ≡ drop ((i + 1) * size) l.records
+  turn_after = chunk_after l.count size i l.records rest whole_chunks left x r some next len
+
+  pub turn_passed : res ≡ Ok tt → Along (contents_of l) o₀ (i + 1) k'
+  turn_passed = along_step (contents_of l) s o₀ i k k' v res counted record_here A P
+
+  pub turn_refused : (f : Refusal) → res ≡ Err f → vectors_fault l.mode 1 (contents_of l).vectors ≡ Some (in_record (j + 1) f)
+  turn_refused f e = rw at (along_refused (contents_of l) s o₀ i k k' v res counted record_here A P f e)
+
 -- past the last record
 pub along_end : (C : Contents) (o₀ : OpenState Symbol) (i : ℕ) (k : OpenState Record) → Along C o₀ i k → length C.vectors ≡ i
     → StandsOpen k (placed_all C.mode o₀ C.vectors) × (length (placed_all C.mode o₀ C.vectors).symbols ≡ symbols_of C.mode (length C.vectors)) × (vectors_fault C.mode 1 C.vectors ≡ None)
@@ -106,9 +140,9 @@ along_end C o₀ i k A e =
 
 -- the shift is tested first
 pub shift_refused : (b : Bool) (e : Refusal) (x : Option FileRefusal) → need b Shift 0 accepted ≡ Err e → cond b x (Some (in_record 0 (fault_at Shift 0))) ≡ Some (in_record 0 e)
-shift_refused true e x h = let z : ◌≡◌ {A = ℕ} 0 1 = cc in absurd (omega arith)
+shift_refused true e x h = cc
 shift_refused false e x h = cc
 
 pub shift_passed : (b : Bool) (x y : Option FileRefusal) → need b Shift 0 accepted ≡ accepted → cond b x y ≡ x
 shift_passed true x y h = refl
-shift_passed false x y h = let z : ◌≡◌ {A = ℕ} 0 1 = cc in absurd (omega arith)
+shift_passed false x y h = cc

@@ -4,6 +4,7 @@ ghost use Rattle.std.specs.Prelude.{◌≡◌, ◌≤◌, length, Some, None, Er
 ghost use Rattle.catalogue.specs.Modes.{catalogue_meaning, mode_meaning};
 ghost use Rattle.protocol.specs.Stands.{Stands};
 ghost use Rattle.burst.specs.Public.{closed_kept};
+ghost use Rattle.burstfile.specs.Modes.{mode_number};
 ghost use Rattle.burstfile.specs.Format.{Shape};
 ghost use Rattle.burstfile.specs.Reading.{Whole, laid, contents_of};
 ghost use Rattle.burstfile.specs.Values.{values_fault, read_spec};
@@ -12,16 +13,15 @@ ghost use Rattle.reading.specs.Held.{offered, file_state, Holds};
 use crate::placing::place_all;
 use crate::telling::tell_all;
 use burst::Burst;
-use burstfile::{File, FileRefusal, check_priors, sections};
+use burstfile::{File, FileRefusal, Mode, check_priors, sections};
 use catalogue::Catalogue;
 
 /// The constellation of a mode.
-fn constellation_of(mode: u8) -> Catalogue
-    requires low { 1 ≤ mode }
-    requires high { mode ≤ 10 }
-    ensures { catalogue_meaning result ≡ offered (mode_meaning mode) }
+fn constellation_of(mode: Mode) -> Catalogue
+    ensures { catalogue_meaning result ≡ offered (mode_meaning (mode_number mode)) }
 {
-    let Some(c) = Catalogue::of_mode(mode) else {
+    // The catalogue is asked by number, as any byte may be: there is one for each mode.
+    let Some(c) = Catalogue::of_mode(mode.number()) else {
         unreachable();
     };
     c

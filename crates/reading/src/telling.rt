@@ -1,6 +1,6 @@
 //! Tells the symbols of a burst the a priori values of a file.
 
-ghost use Rattle.std.specs.Prelude.{◌≡◌, ◌+◌, ◌*◌, ◌<◌, ◌≤◌, false, length, take, drop, Ok};
+ghost use Rattle.std.specs.Prelude.{◌≡◌, ◌+◌, ◌*◌, ◌^◌, ◌<◌, ◌≤◌, false, length, take, drop, Ok};
 ghost use Rattle.std.specs.List.{prefix_len};
 ghost use Rattle.protocol.specs.Verdicts.{inside};
 ghost use Rattle.reading.specs.Held.{told_all};
@@ -9,43 +9,37 @@ ghost use Rattle.protocol.specs.Calls.{tell as telling};
 ghost use Rattle.burst.specs.Public.{closed_kept, Called};
 ghost use Rattle.burstfile.specs.Reading.{signeds_of};
 
+use arrayvec::ArrayVec;
 use burst::Burst;
-use burstfile::value_at;
+use burstfile::value;
 use catalogue::Catalogue;
 use refusal::Refusal;
 
-/// The m values of the symbol at `i`, from 0, in front of eight.
-fn row(priors: &[u8], m: usize, i: usize) -> [i16; 8]
-    requires few { m ≤ 8 }
-    requires within { 2 * (i * m + m) ≤ length priors.now }
-    ensures { take m result ≡ take m (drop (i * m) (signeds_of priors.now)) }
+/// The values of a symbol.
+#[tactic(auto, using(crate::proofs::Filling::values_more, crate::proofs::Filling::values_end))]
+fn row(priors: &[u8]) -> ArrayVec<i16, 8>
+    requires { length priors.now ≤ 16 }
+    ensures { result.items ≡ signeds_of priors.now }
 {
-    let mut values = [0; 8];
-    for k in 0..m {
-        values[k] = value_at(priors, i * m + k);
+    let mut values = ArrayVec::new();
+    for bytes in priors.chunks_exact(2) {
+        values.push(value(bytes));
     }
     values
 }
 
-/// Tells the symbol at `i`, from 0.
-fn tell_symbol(
-    burst: &mut Burst<Catalogue>,
-    m: usize,
-    i: usize,
-    priors: &[u8],
-) -> Result<(), Refusal>
-    requires m { m ≡ (catalogue_meaning burst.old.c).m }
-    requires few { m ≤ 8 }
-    requires i { i < 128 }
-    requires within { 2 * (i * m + m) ≤ length priors.now }
-    ensures told { Called (closed_kept (catalogue_meaning burst.old.c) burst.old.table) (telling (i + 1) (take m (drop (i * m) (signeds_of priors.now)))) result (closed_kept (catalogue_meaning burst.old.c) burst.new.table) }
+/// Tells the symbol at `i`, from 0, its values.
+fn tell_symbol(burst: &mut Burst<Catalogue>, i: usize, priors: &[u8]) -> Result<(), Refusal>
+    requires i { i + 1 < 2 ^ 64 }
+    requires few { length priors.now ≤ 16 }
+    ensures told { Called (closed_kept (catalogue_meaning burst.old.c) burst.old.table) (telling (i + 1) (signeds_of priors.now)) result (closed_kept (catalogue_meaning burst.old.c) burst.new.table) }
     ensures same { burst.new.c ≡ burst.old.c }
 {
-    let values = row(priors, m, i);
-    burst.tell(i + 1, &values[..m])
+    burst.tell(i + 1, &row(priors))
 }
 
 /// Tells every symbol its m values; where the file has none, all stay as they are. None is refused.
+#[tactic(auto, using(crate::proofs::Spreading::told_start, crate::proofs::Chunks::chunks_start))]
 pub fn tell_all(burst: &mut Burst<Catalogue>, priors: &[u8]) -> Result<(), Refusal>
     requires few { (catalogue_meaning burst.old.c).m ≤ 8 }
     requires count { length (closed_kept (catalogue_meaning burst.old.c) burst.old.table).symbols ≤ 128 }
@@ -60,8 +54,8 @@ pub fn tell_all(burst: &mut Burst<Catalogue>, priors: &[u8]) -> Result<(), Refus
         return Ok(());
     }
     let m = burst.positions();
-    for i in 0..burst.symbols() {
-        tell_symbol(burst, m, i, priors)?;
+    for (i, bytes) in priors.chunks_exact(2 * m).enumerate() {
+        tell_symbol(burst, i, bytes)?;
     }
     Ok(())
 }
