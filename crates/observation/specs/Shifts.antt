@@ -1,8 +1,10 @@
 -- Which shift a number makes.
-use Rattle.std.specs.Prelude.{ℕ, cond, Ok, Err, Result, nat_le}
+use Rattle.std.specs.Prelude.{◌≡◌, ℕ, true, false, Ok, Err, Result, nat_le}
 use Rattle.refusal.specs.declared.Cause.TheVariants.{Shift as BadShift}
 use Rattle.refusal.specs.declared.Refusal.{Refusal}
+use Rattle.observation.specs.declared.shift.Shift.{Shift}
 
--- 40 at most, or the refusal
-abbrev pub shift_of : ℕ → Result ℕ Refusal
-shift_of n = cond (nat_le n 40) (Ok n) (Err (record { cause = BadShift; place = 0 }))
+-- the number itself up to 40, and above it the refusal
+abbrev pub MakesShift : ℕ → Result Shift Refusal → Type 0
+MakesShift n (Ok s) = (nat_le n 40 ≡ true) × (s.exponent ≡ n)
+MakesShift n (Err e) = (nat_le n 40 ≡ false) × (e ≡ record { cause = BadShift; place = 0 })
