@@ -7,7 +7,7 @@ use crate::tops::Tops;
 
 /// The best doubled metrics over the quadrant points.
 pub fn tops(symbol: &Received) -> Tops
-    ensures { Gathered symbol.now.record.now symbol.now.shift symbol.now.priors.now symbol.now.chart.now.m symbol.now.chart.now.u symbol.now.chart.now.v symbol.now.chart.now.points.items result.lows.best result.highs.best result.v result.u }
+    ensures { Gathered symbol.now.record.now symbol.now.shift.exponent symbol.now.priors.now symbol.now.chart.now.m symbol.now.chart.now.u symbol.now.chart.now.v symbol.now.chart.now.points.items result.lows.best result.highs.best result.v result.u }
 {
     let mut tops = Tops::none();
     for point in symbol.chart.points.as_slice() {

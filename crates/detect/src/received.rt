@@ -7,20 +7,20 @@ ghost use Rattle.detect.specs.Parts.{prior_sum, Given, Given-prop, Placed, Parte
 use crate::chart::Chart;
 use crate::submetric::Submetric;
 use crate::terms::{based, turned};
-use crate::weights::{scale, weighed};
+use crate::weights::weighed;
 use constellation::{Point, bit_at};
-use observation::Record;
+use observation::{Record, Shift};
 
 /// A symbol as it came over a chart: what its record keeps, the a priori values of its bits, and the shift of their scale.
 #[derive(Clone, Copy)]
 pub struct Received<'a> {
     pub chart: &'a Chart,
     pub record: &'a Record,
-    pub shift: u8,
+    pub shift: Shift,
     pub priors: &'a [i16],
     pub ghost measured: { Measured record.now },
     pub ghost known: { length priors.now ≡ chart.now.m },
-    pub ghost given: { Given shift priors.now chart.now.m chart.now.u chart.now.v } by { Given-prop },
+    pub ghost given: { Given shift.exponent priors.now chart.now.m chart.now.u chart.now.v } by { Given-prop },
 }
 
 /// An a priori value, where its bit is 1.
@@ -48,11 +48,11 @@ impl Received<'_> {
     /// The base of a quadrant point's doubled metrics, and what the signs of its coordinates turn.
     pub fn submetric(&self, point: Point) -> Submetric
         requires { Placed point }
-        ensures { Parted point self.now.record.now self.now.shift self.now.priors.now self.now.chart.now.m self.now.chart.now.u self.now.chart.now.v result.base result.v result.u }
+        ensures { Parted point self.now.record.now self.now.shift.exponent self.now.priors.now self.now.chart.now.m self.now.chart.now.u self.now.chart.now.v result.base result.v result.u }
     {
         let record = self.record;
         let priors = self.priors;
-        let scale = scale(self.shift);
+        let scale = self.shift.scale();
         let weight = weighed(record.weight, point.e);
         let sum = self.prior_sum(point.label);
         let base = based(weight, point.x, point.y, record, scale, sum);

@@ -13,8 +13,7 @@ ghost use Rattle.detect.specs.Kept.{kept_value};
 use crate::chart::Chart;
 use crate::pass::tops;
 use crate::received::Received;
-use crate::weights::scale;
-use observation::Record;
+use observation::{Record, Shift};
 
 /// A difference of doubled metrics, less the bit's own part.
 fn less_own(difference: i64, own: i64) -> i64
@@ -26,11 +25,11 @@ fn less_own(difference: i64, own: i64) -> i64
 }
 
 /// A difference over 2S, rounded down.
-fn floored(difference: i64, shift: u8) -> i64
-    requires { (shift ≤ 40) × (unsigned_abs difference ≤ 4629699317425242112) }
-    ensures { result ≡ shr_z difference (2 ^ (shift + 1)) }
+fn floored(difference: i64, shift: Shift) -> i64
+    requires { unsigned_abs difference ≤ 4629699317425242112 }
+    ensures { result ≡ shr_z difference (2 ^ (shift.exponent + 1)) }
 {
-    difference >> (shift + 1)
+    difference >> (shift.exponent + 1)
 }
 
 /// A number, or the nearest bound of what a value can be.
@@ -41,11 +40,11 @@ fn clipped(number: i64) -> i16
 }
 
 /// The extrinsic value of a bit, from its best at 1 and at 0, both doubled: the bit's own part is taken off, the rest is rounded and clipped.
-fn valued(one: i64, zero: i64, shift: u8, prior: i16) -> i16
-    requires { Valuing one zero shift prior }
-    ensures { result ≡ value_of (2 ^ shift) prior (one -ℤ zero) }
+fn valued(one: i64, zero: i64, shift: Shift, prior: i16) -> i16
+    requires { Valuing one zero shift.exponent prior }
+    ensures { result ≡ value_of (2 ^ shift.exponent) prior (one -ℤ zero) }
 {
-    let scale = scale(shift);
+    let scale = shift.scale();
     let difference = less_own(one - zero, scale * (prior as i64));
     clipped(floored(difference + scale, shift))
 }
@@ -54,17 +53,16 @@ fn valued(one: i64, zero: i64, shift: u8, prior: i16) -> i16
 pub fn extrinsic_values(
     chart: &Chart,
     observed: &Record,
-    shift: u8,
+    shift: Shift,
     priors: &[i16],
     out: &mut [i16],
 )
     requires measured { Measured observed.now }
-    requires shifted { shift ≤ 40 }
     requires known { length priors.now ≡ chart.now.m }
     requires ranged { AllByRecursion (λ x. unsigned_abs x ≤ 8191) priors.now }
     requires room { length out.old ≡ chart.now.m }
-    ensures values { out.new ≡ map (kept_value (chart_meaning chart.now) shift observed.now priors.now) (range_with_len 1 chart.now.m) }
-    ensures exhaustive { (s : Symbol) → observed.now ≡ held_of s → out.new ≡ map (extrinsic_value (chart_meaning chart.now) shift s priors.now) (range_with_len 1 chart.now.m) }
+    ensures values { out.new ≡ map (kept_value (chart_meaning chart.now) shift.exponent observed.now priors.now) (range_with_len 1 chart.now.m) }
+    ensures exhaustive { (s : Symbol) → observed.now ≡ held_of s → out.new ≡ map (extrinsic_value (chart_meaning chart.now) shift.exponent s priors.now) (range_with_len 1 chart.now.m) }
 {
     let symbol = Received {
         chart,

@@ -1,6 +1,6 @@
-//! The weight of a point's distance, and the scale of the a priori values.
+//! The weight of a point's distance.
 
-ghost use Rattle.std.specs.Prelude.{◌≡◌, ◌^◌, ◌≤◌, pos, unsigned_abs};
+ghost use Rattle.std.specs.Prelude.{◌≡◌, ◌≤◌, pos};
 ghost use Rattle.detect.specs.Parts.{weight};
 
 /// W: a symbol's weight over the point's noise energy, in units of 1/2^20.
@@ -14,13 +14,4 @@ pub fn weighed(symbol_weight: u16, noise: u32) -> i64
     } else {
         ((symbol_weight as u64 * 1048576) / noise as u64) as i64
     }
-}
-
-/// S
-pub fn scale(shift: u8) -> i64
-    requires { shift ≤ 40 }
-    ensures value { result ≡ pos (2 ^ shift) }
-    ensures small { unsigned_abs result ≤ 2 ^ 40 }
-{
-    1i64 << shift
 }

@@ -36,10 +36,10 @@ loop-index-preserved c =
     let z = kept w64 (given c.pair_at-one.result.1 held.zero) tt in
     let a = kept w16 (given (get_or c.args.priors.now j (pos 0)) (All-get_or (λ (x : ℤ). nat_abs x ≤ 8191) c.args.priors.now j (pos 0) (omega (arith, c.requires.known)) c.requires.ranged)) tt in
     let fit : SFits w16 c.valued.result = record { sfits = c.valued.type_inv } in
-    put_more (λ k. kept_value (chart_meaning chart) c.args.shift c.args.observed.now c.args.priors.now (k + 1))
+    put_more (λ k. kept_value (chart_meaning chart) c.args.shift.exponent c.args.observed.now c.args.priors.now (k + 1))
     c.loop-index.out j (to_z w16 (of_z w16 c.valued.result)) (omega arith) c.loop-index.invariant
     (to_z-of_z w16 c.valued.result fit ∙ c.valued.ensures
-    ∙ value_same (2 ^ c.args.shift) (a.same ∙ at_next c.args.priors.now j) (o.same ∙ ap (λ (p : ℤ × ℤ). p.0) at) (z.same ∙ ap (λ (p : ℤ × ℤ). p.1) at))
+    ∙ value_same (2 ^ c.args.shift.exponent) (a.same ∙ at_next c.args.priors.now j) (o.same ∙ ap (λ (p : ℤ × ℤ). p.0) at) (z.same ∙ ap (λ (p : ℤ × ℤ). p.1) at))
 
 -- a list by its entries, which are counted from 1
 shift_map : (f : ℕ → ℤ) (a n : ℕ) → map (λ k. f (k + 1)) (range_with_len a n) ≡ map f (range_with_len (a + 1) n)
@@ -54,10 +54,10 @@ returns c =
     let M = chart_meaning c.args.chart.now in
     let long : length c.loop-index.out ≡ M.m = omega (arith, c.requires.room) in
     record {
-      values = listed (kept_value M c.args.shift c.args.observed.now c.args.priors.now) c.loop-index.out M.m long (λ k h. c.loop-index.invariant k (enough k h));
-      exhaustive = λ s e. listed (extrinsic_value M c.args.shift s c.args.priors.now) c.loop-index.out M.m long
-          (λ k h. c.loop-index.invariant k (enough k h) ∙ ap (λ (r : Record). kept_value M c.args.shift r c.args.priors.now (k + 1)) e
-          ∙ kept_same c.args.chart.now.lawful c.args.shift s c.args.priors.now (k + 1) (omega arith) (omega arith));
+      values = listed (kept_value M c.args.shift.exponent c.args.observed.now c.args.priors.now) c.loop-index.out M.m long (λ k h. c.loop-index.invariant k (enough k h));
+      exhaustive = λ s e. listed (extrinsic_value M c.args.shift.exponent s c.args.priors.now) c.loop-index.out M.m long
+          (λ k h. c.loop-index.invariant k (enough k h) ∙ ap (λ (r : Record). kept_value M c.args.shift.exponent r c.args.priors.now (k + 1)) e
+          ∙ kept_same c.args.chart.now.lawful c.args.shift.exponent s c.args.priors.now (k + 1) (omega arith) (omega arith));
     }
   where
     enough : (k : ℕ) → k < c.args.chart.now.m → k < c.loop-index.index

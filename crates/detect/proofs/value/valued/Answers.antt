@@ -37,7 +37,7 @@ pub returns : goal.returns
 returns c =
     let d = less c.less_own-difference.ensures.value c.less_own-difference.ensures.small (apart c.requires).is (keep w64 (own c.scale-scale.ensures.value c.scale-scale.ensures.small c.requires) tt).is in
     let sum = keep w64 (keep w64 (know d) tt ⊕ keep w64 (know (equal c.scale-scale.ensures.value c.scale-scale.ensures.small)) tt) tt in
-    let f = kept w64 (is_by c.floored.ensures (shifted (2 ^ (c.args.shift + 1)) sum.is)) tt in
+    let f = kept w64 (is_by c.floored.ensures (shifted (2 ^ (c.args.shift.exponent + 1)) sum.is)) tt in
     let fit : SFits w16 c.clipped.result = record { sfits = c.clipped.type_inv } in
     to_z-of_z w16 c.clipped.result fit ∙ c.clipped.ensures ∙ ap clipped f.same
-    ∙ ap (λ (n : ℕ). clipped (shr_z (c.args.one -ℤ c.args.zero -ℤ pos 2 *ℤ (pos (2 ^ c.args.shift) *ℤ c.args.prior) +ℤ pos (2 ^ c.args.shift)) n)) (doubled c.args.shift)
+    ∙ ap (λ (n : ℕ). clipped (shr_z (c.args.one -ℤ c.args.zero -ℤ pos 2 *ℤ (pos (2 ^ c.args.shift.exponent) *ℤ c.args.prior) +ℤ pos (2 ^ c.args.shift.exponent)) n)) (doubled c.args.shift.exponent)
