@@ -20,7 +20,7 @@ abbrev pub reference_of : Draft → Option (List Sample)
 reference_of d = option_map (λ y. y.items) d.reference
 
 abbrev pub view : Draft → View
-view d = record { records = d.records.items; number = d.number; shift = d.shift; reference = reference_of d }
+view d = record { records = d.records.items; number = d.number; shift = d.shift.exponent; reference = reference_of d }
 
 abbrev pub empty : ℕ → ℕ → View
 empty number shift = record { records = []; number = number; shift = shift; reference = None }

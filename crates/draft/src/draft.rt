@@ -8,7 +8,7 @@ ghost use Rattle.protocol.specs.Placings.{fine};
 ghost use Rattle.observation.specs.Sizes.{measured};
 
 use arrayvec::ArrayVec;
-use observation::{Record, Sample};
+use observation::{Record, Sample, Shift};
 
 /// The placed symbols, and the received vector that the next differential symbol refers to, once there is one.
 /// An array vector keeps its bound to itself, so `few` says it to the proofs.
@@ -16,10 +16,9 @@ use observation::{Record, Sample};
 pub struct Draft {
     pub records: ArrayVec<Record, 128>,
     pub number: u32,
-    pub shift: u8,
+    pub shift: Shift,
     pub reference: Option<ArrayVec<Sample, 4>>,
     ghost few: { array_vec_len records ≤ 128 },
     ghost sized: { prefix_len measured records.items ≡ array_vec_len records },
-    ghost low: { shift ≤ 40 },
     ghost tuned: { ForSome reference (λ y. prefix_len fine y.items ≡ array_vec_len y) },
 }

@@ -12,14 +12,13 @@ ghost use Rattle.draft.specs.Drafted.{view, empty, reference_of, place_left, add
 use crate::checks::{check_antennas, check_room, check_samples, check_weight};
 use crate::draft::Draft;
 use arrayvec::ArrayVec;
-use observation::{Record, Sample, observe};
+use observation::{Record, Sample, Shift, observe};
 use refusal::Refusal;
 
 impl Draft {
     /// No symbol, and no reference.
-    pub fn new(number: u32, shift: u8) -> Draft
-        requires { shift ≤ 40 }
-        ensures { view result ≡ empty number shift }
+    pub fn new(number: u32, shift: Shift) -> Draft
+        ensures { view result ≡ empty number shift.exponent }
     {
         Draft {
             records: ArrayVec::new(),

@@ -23,7 +23,7 @@ pub record View : Type 0 where
   pub out : Bool
 
 abbrev pub view : Table → View
-view t = record { records = t.records.items; priors = t.priors; number = t.number; shift = t.shift; given = t.given; out = t.out }
+view t = record { records = t.records.items; priors = t.priors; number = t.number; shift = t.shift.exponent; given = t.given; out = t.out }
 
 -- records with their a priori values, m to a record
 abbrev pub paired : ℕ → List Record → List ℤ → List (Placed Record)

@@ -14,7 +14,7 @@ use crate::range::in_range;
 use crate::table::Table;
 use crate::turn::Turn;
 use arrayvec::ArrayVec;
-use observation::Record;
+use observation::{Record, Shift};
 use refusal::{Cause, Refusal};
 
 /// Writes the values over the priors from `at` on.
@@ -32,11 +32,10 @@ fn put(priors: &mut [i16; 1024], at: usize, values: &[i16])
 
 impl Table {
     /// The table of the placed symbols: every a priori value is 0, and no turn was given out.
-    pub fn new(records: ArrayVec<Record, 128>, number: u32, shift: u8) -> Table
+    pub fn new(records: ArrayVec<Record, 128>, number: u32, shift: Shift) -> Table
         requires few { array_vec_len records ≤ 128 }
         requires sized { prefix_len fits records.items ≡ array_vec_len records }
-        requires low { shift ≤ 40 }
-        ensures { view result ≡ fresh records.items number shift }
+        ensures { view result ≡ fresh records.items number shift.exponent }
     {
         Table {
             records,

@@ -7,7 +7,7 @@ ghost use Rattle.protocol.specs.Verdicts.{inside};
 ghost use Rattle.observation.specs.Sizes.{measured as fits};
 
 use arrayvec::ArrayVec;
-use observation::Record;
+use observation::{Record, Shift};
 
 /// The symbols, and their a priori values, m to a symbol. A rule of the project: the values lie in one flat array in the order
 /// of a sheet, so that answering and telling are one copy each.
@@ -19,12 +19,11 @@ pub struct Table {
     pub records: ArrayVec<Record, 128>,
     pub priors: [i16; 1024],
     pub number: u32,
-    pub shift: u8,
+    pub shift: Shift,
     pub given: u32,
     pub out: bool,
     ghost few: { array_vec_len records ≤ 128 },
     ghost wide: { length priors ≡ 1024 },
     ghost ranged: { prefix_len inside priors ≡ 1024 },
     ghost sized: { prefix_len fits records.items ≡ array_vec_len records },
-    ghost low: { shift ≤ 40 },
 }
