@@ -1,6 +1,7 @@
 //! What is known of one symbol.
 
 ghost use Rattle.std.specs.Prelude.{◌≡◌, ◌≤◌, ◌==◌, cond, length, pos, unsigned_abs};
+ghost use Rattle.metric.specs.Exhaustive.{at_bit};
 ghost use Rattle.observation.specs.Observed.{Measured};
 ghost use Rattle.detect.specs.Parts.{prior_sum, Given, Given-prop, Placed, Parted};
 
@@ -45,31 +46,30 @@ impl Received<'_> {
         sum
     }
 
+    /// The a priori value at a position, counted from 1.
+    fn prior_at(&self, position: u8) -> i16
+        requires least { 1 ≤ position }
+        requires most { position ≤ self.now.chart.now.m }
+        ensures value { result ≡ at_bit self.now.priors.now position }
+        ensures small { unsigned_abs result ≤ 8191 }
+    {
+        self.priors[position as usize - 1]
+    }
+
     /// The base of a quadrant point's doubled metrics, and what the signs of its coordinates turn.
     pub fn submetric(&self, point: Point) -> Submetric
         requires { Placed point }
         ensures { Parted point self.now.record.now self.now.shift.exponent self.now.priors.now self.now.chart.now.m self.now.chart.now.u self.now.chart.now.v result.base result.v result.u }
     {
         let record = self.record;
-        let priors = self.priors;
         let scale = self.shift.scale();
         let weight = weighed(record.weight, point.e);
         let sum = self.prior_sum(point.label);
         let base = based(weight, point.x, point.y, record, scale, sum);
-        let v = turned(
-            weight,
-            point.x,
-            record.z_re,
-            scale,
-            priors[(self.chart.v - 1) as usize],
-        );
-        let u = turned(
-            weight,
-            point.y,
-            record.z_im,
-            scale,
-            priors[(self.chart.u - 1) as usize],
-        );
+        let real = self.prior_at(self.chart.v);
+        let v = turned(weight, point.x, record.z_re, scale, real);
+        let imaginary = self.prior_at(self.chart.u);
+        let u = turned(weight, point.y, record.z_im, scale, imaginary);
         Submetric { base, v, u }
     }
 }

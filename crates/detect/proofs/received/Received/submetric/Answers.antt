@@ -1,19 +1,7 @@
 use Rattle.detect.proofs.received.Received.submetric.Goals as goal
-use Rattle.std.proofs.Common.{◌≡◌, ℕ, zero, suc, ◌-◌, ◌≤◌, List, get_or, ℤ, pos, nat_abs, ◌∙◌, sub-one, arith, w16, w32, w64}
-use Rattle.std.proofs.ByRecursion.{All-get_or}
-use Rattle.metric.specs.Exhaustive.{at_bit}
-use Rattle.detect.specs.Parts.{middle, turn, Given}
+use Rattle.std.proofs.Common.{◌≡◌, ℕ, ℤ, ◌∙◌, w16, w32, w64}
+use Rattle.detect.specs.Parts.{middle, turn}
 use Rattle.arith.proofs.Exact.{given, equal, counted, kept, small}
-
-abbrev Small : ℤ → Type 0
-Small x = nat_abs x ≤ 8191
-
-value_at : {shift m u v : ℕ} {a : List ℤ} → Given shift a m u v → (k : ℕ) → 1 ≤ k → k ≤ m → Small (get_or a (k - 1) (pos 0))
-value_at {m = m} {a = a} g k h l = All-get_or Small a (k - 1) (pos 0) (omega (arith, g.a_long)) g.a_in
-
-at_place : (a : List ℤ) (k : ℕ) → 1 ≤ k → get_or a (k - 1) (pos 0) ≡ at_bit a k
-at_place a zero h = elim h [ ]
-at_place a (suc k) h = rw sub-one
 
 middle-same : {w v s t p q : ℤ} (x y Y H : ℕ) → w ≡ v → s ≡ t → p ≡ q → middle w x y Y H s p ≡ middle v x y Y H t q
 middle-same x y Y H e f g = rw (e, f, g)
@@ -24,14 +12,13 @@ turn-same x e f g h = rw (e, f, g, h)
 pub returns : goal.returns
 returns c =
     let r = c.args.self.now in
-    let g = r.given in
     let w = kept w64 (counted c.weighed-weight.ensures.value c.weighed-weight.ensures.small) tt in
     let s = kept w64 (equal c.scale-scale.ensures.value c.scale-scale.ensures.small) tt in
     let p = kept w64 (equal c.prior_sum-sum.ensures.value c.prior_sum-sum.ensures.small) tt in
     let zr = kept w32 (given r.record.now.z_re r.measured.re) tt in
     let zi = kept w32 (given r.record.now.z_im r.measured.im) tt in
-    let av = kept w16 (equal (at_place r.priors.now r.chart.now.v g.v_low) (value_at g r.chart.now.v g.v_low g.v_high)) tt in
-    let au = kept w16 (equal (at_place r.priors.now r.chart.now.u g.u_low) (value_at g r.chart.now.u g.u_low g.u_high)) tt in
+    let av = kept w16 (equal c.prior_at-real.ensures.value c.prior_at-real.ensures.small) tt in
+    let au = kept w16 (equal c.prior_at-imaginary.ensures.value c.prior_at-imaginary.ensures.small) tt in
     let base = kept w64 (equal (c.based-base.ensures.value ∙ middle-same c.args.point.x c.args.point.y r.record.now.y_energy r.record.now.h_energy w.same s.same p.same) c.based-base.ensures.small) tt in
     let tv = kept w64 (equal (c.turned-v.ensures.value ∙ turn-same c.args.point.x w.same s.same zr.same av.same) c.turned-v.ensures.small) tt in
     let tu = kept w64 (equal (c.turned-u.ensures.value ∙ turn-same c.args.point.y w.same s.same zi.same au.same) c.turned-u.ensures.small) tt in
