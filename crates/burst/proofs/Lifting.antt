@@ -1,18 +1,18 @@
 -- From what a table or a draft is left as to what the burst is left as, and to what it then stands for.
-use Rattle.std.proofs.Common.{◌≡◌, ℕ, ◌+◌, ◌-◌, ◌*◌, ◌<◌, ◌≤◌, false, not, eqb, leb, length, drop, ℤ, List, Ok, Err, Result, sym, refl, ap, ◌∙◌, subst, mul-le-mul, arith}
+use Rattle.std.proofs.Common.{◌≡◌, ℕ, ◌+◌, ◌-◌, ◌*◌, ◌≤◌, false, not, eqb, leb, length, drop, ℤ, List, Ok, Err, Result, sym, refl, ap, ◌∙◌, subst, mul-le-mul, arith}
 use Rattle.std.proofs.lemmas.Bool.{and_parts, leb-true, eqb-true}
 use Rattle.refusal.specs.declared.Refusal.{Refusal}
 use Rattle.constellation.specs.Meaning.{Meaning}
 use Rattle.observation.specs.Observed.{held, symbol_of}
 use Rattle.protocol.specs.Verdicts.{Verdict, up_to}
 use Rattle.protocol.specs.Placings.{Placing, place_verdict, place_after}
-use Rattle.protocol.specs.Calls.{Call, tell, taking, answer, withdraw, erase, outline, verdict, closed, leaves}
+use Rattle.protocol.specs.Calls.{Call, tell, answer, withdraw, erase, outline, verdict, closed, leaves}
 use Rattle.protocol.specs.Stands.{recorded, erased_symbol, erased_record}
 use Rattle.protocol.proofs.Fronts.{passed}
 use Rattle.protocol.proofs.Images.{place-image, closed-image, outline-image, leaves-image}
 use Rattle.draft.specs.Drafted as drafted
 use Rattle.draft.specs.declared.draft.Draft.{Draft}
-use Rattle.table.specs.Kept.{view, kept, outlined, fresh, tell_left, answer_left, withdraw_left, erase_left, issued, returned}
+use Rattle.table.specs.Kept.{view, kept, outlined, fresh, tell_left, answer_left, withdraw_left, erase_left, returned}
 use Rattle.table.specs.declared.table.Table.{Table}
 use Rattle.table.specs.declared.turn.Turn.{Turn}
 use Rattle.table.proofs.Pairs.{length-paired, paired-told, paired_all, paired-set, paired-fresh}

@@ -44,10 +44,10 @@ paired_at m (r ∷ rs) zs (suc i) d h =
     ∙ ap (λ k. record { symbol = get_or rs i blank; priors = take m k }) (drop-drop (i * m) m zs ∙ ap (λ k. drop k zs) s)
 
 pub seen_is : (d : Detector) (i : ℕ) → i < length d.table.now.records.items → get_or (seen d).symbols i (seen_at d i) ≡ seen_at d i
-seen_is d i h = paired_at d.chart.now.m d.table.now.records.items d.table.now.priors i (seen_at d i) h
+seen_is d i h = paired_at d.chart.m d.table.now.records.items d.table.now.priors i (seen_at d i) h
 
 pub seen_count : (d : Detector) → length (seen d).symbols ≡ length d.table.now.records.items
-seen_count d = length-paired d.chart.now.m d.table.now.records.items d.table.now.priors
+seen_count d = length-paired d.chart.m d.table.now.records.items d.table.now.priors
 
 of_symbol_at : {X Y : Type 0} (g : X → Y) (z : Y) (i : ℕ) (xs : List X) (d : X) → i < length xs → of_symbol g z i xs ≡ g (get_or xs i d)
 of_symbol_at g z i [] d h = absurd (not-suc-le-zero h)
