@@ -18,9 +18,19 @@ use Rattle.table.proofs.Pairs.{length-paired}
 use Rattle.soft.specs.declared.detector.Detector.{Detector}
 use Rattle.soft.specs.Seen.{seen, seen_at}
 
--- a symbol's values end within the table
+-- a symbol's values end within the n symbols'
+pub row_room : (n m i : ℕ) → i < n → i * m + m ≤ n * m
+row_room n m i h =
+    let e : suc i * m ≡ i * m + m = omega (arith, suc-mul i m) in
+    let g : suc i * m ≤ n * m = mul-le-mul h (let r : m ≤ m = omega arith in r) in
+    omega arith
+
+pub table_room : (n m : ℕ) → n ≤ 128 → m ≤ 8 → n * m ≤ 1024
+table_room n m a b = mul-le-mul {n₂ = 128} {m₂ = 8} a b
+
+-- and within the table
 pub row_end : (i m n : ℕ) → i < n → n ≤ 128 → m ≤ 8 → (i + 1) * m ≤ 1024
-row_end i m n h few small = mul-le-mul {n₂ = 128} {m₂ = 8} (let r : i + 1 ≤ 128 = omega arith in r) small
+row_end i m n h few small = table_room (i + 1) m (omega arith) small
 
 -- a value that is in range has a size of 8191 at most
 in_size : (z : ℤ) → inside z ≡ true → nat_abs z ≤ 8191
