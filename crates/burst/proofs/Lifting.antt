@@ -1,21 +1,22 @@
 -- From what a table or a draft is left as to what the burst is left as, and to what it then stands for.
-use Rattle.std.proofs.Common.{◌≡◌, ℕ, ◌+◌, ◌-◌, ◌*◌, ◌<◌, ◌≤◌, false, not, eqb, leb, length, drop, ℤ, List, Ok, Err, Result, sym, refl, ap, ◌∙◌, subst, mul-le-mul, arith}
+use Rattle.std.proofs.Common.{◌≡◌, ℕ, ◌+◌, ◌-◌, ◌*◌, ◌≤◌, false, not, eqb, leb, length, drop, ℤ, List, Ok, Err, Result, sym, refl, ap, ◌∙◌, subst, arith}
 use Rattle.std.proofs.lemmas.Bool.{and_parts, leb-true, eqb-true}
 use Rattle.refusal.specs.declared.Refusal.{Refusal}
 use Rattle.constellation.specs.Meaning.{Meaning}
 use Rattle.observation.specs.Observed.{held, symbol_of}
 use Rattle.protocol.specs.Verdicts.{Verdict, up_to}
 use Rattle.protocol.specs.Placings.{Placing, place_verdict, place_after}
-use Rattle.protocol.specs.Calls.{Call, tell, taking, answer, withdraw, erase, outline, verdict, closed, leaves}
+use Rattle.protocol.specs.Calls.{Call, tell, answer, withdraw, erase, outline, verdict, closed, leaves}
 use Rattle.protocol.specs.Stands.{recorded, erased_symbol, erased_record}
 use Rattle.protocol.proofs.Fronts.{passed}
 use Rattle.protocol.proofs.Images.{place-image, closed-image, outline-image, leaves-image}
 use Rattle.draft.specs.Drafted as drafted
 use Rattle.draft.specs.declared.draft.Draft.{Draft}
-use Rattle.table.specs.Kept.{view, kept, outlined, fresh, tell_left, answer_left, withdraw_left, erase_left, issued, returned}
+use Rattle.table.specs.Kept.{view, kept, outlined, fresh, tell_left, answer_left, withdraw_left, erase_left, returned}
 use Rattle.table.specs.declared.table.Table.{Table}
 use Rattle.table.specs.declared.turn.Turn.{Turn}
 use Rattle.table.proofs.Pairs.{length-paired, paired-told, paired_all, paired-set, paired-fresh}
+use Rattle.soft.proofs.Rows.{table_room}
 use Rattle.burst.specs.Public.{open_kept, closed_kept, PlacedBy, ClosedBy, Called, Answered}
 
 -- what a placing leaves
@@ -34,10 +35,6 @@ placed_said M d e p r reply h = record {
     left : open_kept M e ≡ place_after recorded r (open_kept M d) p
     left = ap (drafted.kept M) h ∙ go r
 
--- all symbols have room for their values
-room : (m n : ℕ) → m ≤ 8 → n ≤ 128 → n * m ≤ 1024
-room m n small few = mul-le-mul {n₂ = 128} {m₂ = 8} few small
-
 pub closed_said : (M : Meaning) (d : Draft) (t : Table) → M.m ≤ 8 → view t ≡ fresh d.records.items d.number d.shift → ClosedBy (open_kept M d) (closed_kept M t)
 closed_said M d t small h = record {
   kept = left;
@@ -47,7 +44,7 @@ closed_said M d t small h = record {
     left : closed_kept M t ≡ closed (open_kept M d)
     left =
         ap (kept M) h
-        ∙ ap (λ ys. record { meaning = M; number = d.number; shift = d.shift; symbols = ys; given = 0; out = false }) (paired-fresh M.m d.records.items 1024 (room M.m _ small d.few))
+        ∙ ap (λ ys. record { meaning = M; number = d.number; shift = d.shift; symbols = ys; given = 0; out = false }) (paired-fresh M.m d.records.items 1024 (table_room _ M.m d.few small))
 
 module _ (M : Meaning) (t : Table) where
   pub outline_is : outline (closed_kept M t) ≡ outlined M.m (view t)
@@ -91,7 +88,7 @@ module _ (M : Meaning) (t : Table) where
       let low = leb-true _ _ b.0 in
       let high = leb-true _ _ b.1 in
       ap (λ ys. record { meaning = M; number = t.number; shift = t.shift; symbols = ys; given = t.given; out = t.out })
-      (paired-told M.m t.records.items (i - 1) zs t.priors (eqb-true _ _ l.0) (omega arith) (omega (arith, room M.m _ small t.few, t.wide)))
+      (paired-told M.m t.records.items (i - 1) zs t.priors (eqb-true _ _ l.0) (omega arith) (omega (arith, table_room _ M.m t.few small, t.wide)))
 
   answered_left : (b n : ℕ) (zs : List ℤ) (r : Verdict) → r ≡ verdict (outlined M.m (view t)) (answer b n zs) → kept M (answer_left r (view t) zs) ≡ leaves erased_record r (closed_kept M t) (answer b n zs)
   answered_left b n zs (Err e) h = refl

@@ -6,7 +6,6 @@ ghost use Rattle.burst.specs.Public.{closed_kept, Called, Taken, Answered, Read,
 
 use crate::burst::Burst;
 use constellation::Constellation;
-use detect::chart::Chart;
 use refusal::Refusal;
 use soft::Detector;
 use table::Turn;
@@ -26,13 +25,8 @@ impl<C: Constellation> Burst<C> {
         ensures taken { Taken (closed_kept (C.meaning self.old.c) self.old.table) sheet.old result (closed_kept (C.meaning self.old.c) self.new.table) sheet.new }
         ensures same { self.new.c ≡ self.old.c }
     {
-        let chart = Chart::of(&self.c);
-        self.table.may_take(chart.m, sheet.len())?;
-        let detector = Detector {
-            chart: &chart,
-            table: &self.table,
-        };
-        detector.fill(sheet);
+        self.table.may_take(self.c.m(), sheet.len())?;
+        Detector::of(&self.c, &self.table).fill(sheet);
         Ok(self.table.issue())
     }
 
@@ -66,26 +60,16 @@ impl<C: Constellation> Burst<C> {
     pub fn read(&self, symbol: usize, position: usize) -> Result<(i16, i16, i32), Refusal>
         ensures { Read (closed_kept (C.meaning self.now.c) self.now.table) symbol position result }
     {
-        let chart = Chart::of(&self.c);
-        self.table.may_read(chart.m, symbol, position)?;
-        let detector = Detector {
-            chart: &chart,
-            table: &self.table,
-        };
-        Ok(detector.look(symbol, position))
+        self.table.may_read(self.c.m(), symbol, position)?;
+        Ok(Detector::of(&self.c, &self.table).look(symbol, position))
     }
 
     /// Writes 1 where the posterior value is above 0, else 0, for every symbol and position, symbol by symbol.
     pub fn hard_decide(&self, bits: &mut [u8]) -> Result<(), Refusal>
         ensures { Decided (closed_kept (C.meaning self.now.c) self.now.table) bits.old result bits.new }
     {
-        let chart = Chart::of(&self.c);
-        self.table.may_decide(chart.m, bits.len())?;
-        let detector = Detector {
-            chart: &chart,
-            table: &self.table,
-        };
-        detector.decide(bits);
+        self.table.may_decide(self.c.m(), bits.len())?;
+        Detector::of(&self.c, &self.table).decide(bits);
         Ok(())
     }
 }

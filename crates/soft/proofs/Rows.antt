@@ -18,9 +18,19 @@ use Rattle.table.proofs.Pairs.{length-paired}
 use Rattle.soft.specs.declared.detector.Detector.{Detector}
 use Rattle.soft.specs.Seen.{seen, seen_at}
 
--- a symbol's values end within the table
+-- a symbol's values end within the n symbols'
+pub row_room : (n m i : ℕ) → i < n → i * m + m ≤ n * m
+row_room n m i h =
+    let e : suc i * m ≡ i * m + m = omega (arith, suc-mul i m) in
+    let g : suc i * m ≤ n * m = mul-le-mul h (let r : m ≤ m = omega arith in r) in
+    omega arith
+
+pub table_room : (n m : ℕ) → n ≤ 128 → m ≤ 8 → n * m ≤ 1024
+table_room n m a b = mul-le-mul {n₂ = 128} {m₂ = 8} a b
+
+-- and within the table
 pub row_end : (i m n : ℕ) → i < n → n ≤ 128 → m ≤ 8 → (i + 1) * m ≤ 1024
-row_end i m n h few small = mul-le-mul {n₂ = 128} {m₂ = 8} (let r : i + 1 ≤ 128 = omega arith in r) small
+row_end i m n h few small = table_room (i + 1) m (omega arith) small
 
 -- a value that is in range has a size of 8191 at most
 in_size : (z : ℤ) → inside z ≡ true → nat_abs z ≤ 8191
@@ -44,10 +54,10 @@ paired_at m (r ∷ rs) zs (suc i) d h =
     ∙ ap (λ k. record { symbol = get_or rs i blank; priors = take m k }) (drop-drop (i * m) m zs ∙ ap (λ k. drop k zs) s)
 
 pub seen_is : (d : Detector) (i : ℕ) → i < length d.table.now.records.items → get_or (seen d).symbols i (seen_at d i) ≡ seen_at d i
-seen_is d i h = paired_at d.chart.now.m d.table.now.records.items d.table.now.priors i (seen_at d i) h
+seen_is d i h = paired_at d.chart.m d.table.now.records.items d.table.now.priors i (seen_at d i) h
 
 pub seen_count : (d : Detector) → length (seen d).symbols ≡ length d.table.now.records.items
-seen_count d = length-paired d.chart.now.m d.table.now.records.items d.table.now.priors
+seen_count d = length-paired d.chart.m d.table.now.records.items d.table.now.priors
 
 of_symbol_at : {X Y : Type 0} (g : X → Y) (z : Y) (i : ℕ) (xs : List X) (d : X) → i < length xs → of_symbol g z i xs ≡ g (get_or xs i d)
 of_symbol_at g z i [] d h = absurd (not-suc-le-zero h)

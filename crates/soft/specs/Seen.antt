@@ -8,8 +8,8 @@ use Rattle.soft.specs.declared.detector.Detector.{Detector}
 
 -- the state of the burst
 abbrev pub seen : Detector → State Record
-seen d = kept (chart_meaning d.chart.now) (view d.table.now)
+seen d = kept (chart_meaning d.chart) (view d.table.now)
 
 -- one symbol of it, counted from 0
 abbrev pub seen_at : Detector → ℕ → Placed Record
-seen_at d i = record { symbol = slice_index_or d.table.now.records.items i blank; priors = take d.chart.now.m (drop (i * d.chart.now.m) d.table.now.priors) }
+seen_at d i = record { symbol = slice_index_or d.table.now.records.items i blank; priors = take d.chart.m (drop (i * d.chart.m) d.table.now.priors) }

@@ -6,15 +6,32 @@ ghost use Rattle.protocol.specs.Calls.{extrinsics};
 ghost use Rattle.detect.specs.Kept.{kept_value};
 
 use arrayvec::ArrayVec;
+use constellation::Constellation;
 use detect::chart::Chart;
 use detect::value::extrinsic_values;
 use table::Table;
 
-/// A closed burst's table over the chart of its constellation.
-#[derive(Clone, Copy)]
+/// A closed burst's table, and the chart of its constellation.
+#[derive(Drop)]
 pub struct Detector<'a> {
-    pub chart: &'a Chart,
+    pub chart: Chart,
     pub table: &'a Table,
+}
+
+impl<'a> Detector<'a> {
+    ghost use Rattle.detect.specs.Charts.{chart_meaning};
+
+    /// The detector over a burst's constellation and table.
+    pub fn of<C: Constellation>(c: &C, table: &'a Table) -> Detector<'a>
+        ensures meaning { chart_meaning result.chart ≡ C.Constellation.meaning c.now }
+        ensures positions { result.chart.m ≡ (C.Constellation.meaning c.now).m }
+        ensures table { result.table.now ≡ table.now }
+    {
+        Detector {
+            chart: Chart::of(c),
+            table,
+        }
+    }
 }
 
 impl Detector<'_> {
@@ -22,7 +39,7 @@ impl Detector<'_> {
 
     /// How many positions a symbol has.
     pub(crate) fn positions(&self) -> usize
-        ensures value { result ≡ self.now.chart.now.m }
+        ensures value { result ≡ self.now.chart.m }
         ensures most { result ≤ 8 }
     {
         self.chart.m as usize
@@ -33,7 +50,7 @@ impl Detector<'_> {
     pub(crate) fn priors(&self, i: usize) -> &[i16]
         requires { i < length self.now.table.now.records.items }
         ensures value { result.now ≡ (seen_at self.now i).priors }
-        ensures known { length result.now ≡ self.now.chart.now.m }
+        ensures known { length result.now ≡ self.now.chart.m }
         ensures ranged { AllByRecursion (λ x. unsigned_abs x ≤ 8191) result.now }
     {
         let m = self.positions();
@@ -44,18 +61,18 @@ impl Detector<'_> {
     /// Writes the extrinsic values of one symbol, counted from 0.
     pub(crate) fn row(&self, i: usize, out: &mut [i16])
         requires within { i < length self.now.table.now.records.items }
-        requires room { length out.old ≡ self.now.chart.now.m }
+        requires room { length out.old ≡ self.now.chart.m }
         ensures { out.new ≡ extrinsics kept_value (seen self.now).meaning (seen self.now).shift (seen_at self.now i) }
     {
         let record = &self.table.records[i];
-        extrinsic_values(self.chart, record, self.table.shift, self.priors(i), out);
+        extrinsic_values(&self.chart, record, self.table.shift, self.priors(i), out);
     }
 
     /// The extrinsic values of one symbol, counted from 0.
     pub(crate) fn values(&self, i: usize) -> ArrayVec<i16, 8>
         requires { i < length self.now.table.now.records.items }
         ensures value { result.items ≡ extrinsics kept_value (seen self.now).meaning (seen self.now).shift (seen_at self.now i) }
-        ensures known { length result.items ≡ self.now.chart.now.m }
+        ensures known { length result.items ≡ self.now.chart.m }
     {
         let mut values = ArrayVec::from([0; 8]);
         values.truncate(self.positions());

@@ -25,7 +25,7 @@ impl Detector<'_> {
     /// The a priori, the extrinsic and the posterior value of a symbol's position, both counted from 1.
     pub fn look(&self, symbol: usize, position: usize) -> (i16, i16, i32)
         requires symbol_in { (1 ≤ symbol) × (symbol ≤ length self.now.table.now.records.items) }
-        requires position_in { (1 ≤ position) × (position ≤ self.now.chart.now.m) }
+        requires position_in { (1 ≤ position) × (position ≤ self.now.chart.m) }
         ensures { result ≡ reading kept_value (seen self.now) symbol position }
     {
         let values = self.values(symbol - 1);
@@ -37,7 +37,7 @@ impl Detector<'_> {
     /// written stays open, so these two are read by their index.
     pub(crate) fn decide_row(&self, i: usize, out: &mut [u8])
         requires within { i < length self.now.table.now.records.items }
-        requires room { length out.old ≡ self.now.chart.now.m }
+        requires room { length out.old ≡ self.now.chart.m }
         ensures { out.new ≡ decided kept_value (seen self.now).meaning (seen self.now).shift (seen_at self.now i) }
     {
         let priors = self.priors(i);

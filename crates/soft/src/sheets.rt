@@ -15,7 +15,7 @@ use crate::detector::Detector;
 impl Detector<'_> {
     /// Writes the extrinsic values of all symbols.
     pub fn fill(&self, sheet: &mut [i16])
-        requires { length sheet.old ≡ length self.now.table.now.records.items * self.now.chart.now.m }
+        requires { length sheet.old ≡ length self.now.table.now.records.items * self.now.chart.m }
         ensures { sheet.new ≡ sheet_of kept_value (seen self.now) }
     {
         let m = self.positions();
@@ -26,7 +26,7 @@ impl Detector<'_> {
 
     /// Writes the hard decisions of all symbols.
     pub fn decide(&self, bits: &mut [u8])
-        requires { length bits.old ≡ length self.now.table.now.records.items * self.now.chart.now.m }
+        requires { length bits.old ≡ length self.now.table.now.records.items * self.now.chart.m }
         ensures { bits.new ≡ bits_of kept_value (seen self.now) }
     {
         let m = self.positions();

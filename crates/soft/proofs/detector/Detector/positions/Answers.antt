@@ -2,4 +2,4 @@ use Rattle.detect.proofs.Charted.{most}
 use Rattle.soft.proofs.detector.Detector.positions.Goals as goal
 
 pub returns-clause-most : goal.returns-clause-most
-returns-clause-most c = most c.args.self.now.chart.now.lawful
+returns-clause-most c = most c.args.self.now.chart.lawful
