@@ -35,7 +35,7 @@ placed_said M d e p r reply h = record {
     left : open_kept M e ≡ place_after recorded r (open_kept M d) p
     left = ap (drafted.kept M) h ∙ go r
 
-pub closed_said : (M : Meaning) (d : Draft) (t : Table) → M.m ≤ 8 → view t ≡ fresh d.records.items d.number d.shift → ClosedBy (open_kept M d) (closed_kept M t)
+pub closed_said : (M : Meaning) (d : Draft) (t : Table) → M.m ≤ 8 → view t ≡ fresh d.records.items d.number d.shift.exponent → ClosedBy (open_kept M d) (closed_kept M t)
 closed_said M d t small h = record {
   kept = left;
   stands = λ o S. left ∙ ap closed S ∙ closed-image held o;
@@ -44,7 +44,7 @@ closed_said M d t small h = record {
     left : closed_kept M t ≡ closed (open_kept M d)
     left =
         ap (kept M) h
-        ∙ ap (λ ys. record { meaning = M; number = d.number; shift = d.shift; symbols = ys; given = 0; out = false }) (paired-fresh M.m d.records.items 1024 (table_room _ M.m d.few small))
+        ∙ ap (λ ys. record { meaning = M; number = d.number; shift = d.shift.exponent; symbols = ys; given = 0; out = false }) (paired-fresh M.m d.records.items 1024 (table_room _ M.m d.few small))
 
 module _ (M : Meaning) (t : Table) where
   pub outline_is : outline (closed_kept M t) ≡ outlined M.m (view t)
@@ -75,7 +75,7 @@ module _ (M : Meaning) (t : Table) where
       let b = and_parts (leb 1 i) (leb i (length t.records.items)) p.0 in
       let low = leb-true _ _ b.0 in
       let high = leb-true _ _ b.1 in
-      ap (λ ys. record { meaning = M; number = t.number; shift = t.shift; symbols = ys; given = t.given; out = t.out })
+      ap (λ ys. record { meaning = M; number = t.number; shift = t.shift.exponent; symbols = ys; given = t.given; out = t.out })
       (paired-set M.m erased_record t.records.items (i - 1) t.priors (omega arith))
 
   told_left : M.m ≤ 8 → (i : ℕ) (zs : List ℤ) (r : Verdict) → r ≡ verdict (outlined M.m (view t)) (tell i zs) → kept M (tell_left r M.m (view t) i zs) ≡ leaves erased_record r (closed_kept M t) (tell i zs)
@@ -87,7 +87,7 @@ module _ (M : Meaning) (t : Table) where
       let b = and_parts (leb 1 i) (leb i (length t.records.items)) p.0 in
       let low = leb-true _ _ b.0 in
       let high = leb-true _ _ b.1 in
-      ap (λ ys. record { meaning = M; number = t.number; shift = t.shift; symbols = ys; given = t.given; out = t.out })
+      ap (λ ys. record { meaning = M; number = t.number; shift = t.shift.exponent; symbols = ys; given = t.given; out = t.out })
       (paired-told M.m t.records.items (i - 1) zs t.priors (eqb-true _ _ l.0) (omega arith) (omega (arith, table_room _ M.m t.few small, t.wide)))
 
   answered_left : (b n : ℕ) (zs : List ℤ) (r : Verdict) → r ≡ verdict (outlined M.m (view t)) (answer b n zs) → kept M (answer_left r (view t) zs) ≡ leaves erased_record r (closed_kept M t) (answer b n zs)
@@ -95,7 +95,7 @@ module _ (M : Meaning) (t : Table) where
   answered_left b n zs (Ok a) h =
       let p = passed _ _ _ _ h in
       let l = passed (eqb (length zs) (length t.records.items * M.m)) _ _ _ p.1 in
-      ap (λ ys. record { meaning = M; number = t.number; shift = t.shift; symbols = ys; given = t.given; out = false })
+      ap (λ ys. record { meaning = M; number = t.number; shift = t.shift.exponent; symbols = ys; given = t.given; out = false })
       (paired_all M.m t.records.items zs (drop (0 + length zs) t.priors) t.priors (eqb-true _ _ l.0))
 
 -- each call of the table is one of the burst's: m is the number of positions

@@ -8,12 +8,9 @@ ghost use Rattle.burst.specs.Public.{Opened, open_kept, closed_kept, PlacedBy, C
 use crate::burst::{Burst, OpenBurst};
 use constellation::Constellation;
 use draft::Draft;
-use observation::Sample;
-use refusal::{Cause, Refusal};
+use observation::{Sample, Shift};
+use refusal::Refusal;
 use table::Table;
-
-/// The largest shift.
-const HIGHEST: u8 = 40;
 
 impl<C: Constellation> OpenBurst<C> {
     /// Opens a burst over a constellation. The caller picks the number.
@@ -22,9 +19,7 @@ impl<C: Constellation> OpenBurst<C> {
         C: Drop,
         ensures { Opened C.Constellation.meaning c number shift result }
     {
-        if shift > HIGHEST {
-            return Err(Cause::Shift.at(0));
-        }
+        let shift = Shift::try_from(shift)?;
         let draft = Draft::new(number, shift);
         Ok(OpenBurst { c, draft })
     }
