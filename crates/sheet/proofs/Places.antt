@@ -132,3 +132,6 @@ interleaved_columnwise rows columns xs e =
 
 -- what the loop over a column needs
 pub ruleset dealing = (along_none, along_more, common_steps)
+
+-- what the two orders need
+pub ruleset orders = (interleaved_columnwise, interleaved_back, mul_comm)

@@ -28,6 +28,7 @@ pub fn back_and_there<T: Copy>(sheet: &mut Sheet<T>, slice: &mut [T]) -> Result<
 }
 
 /// The two orders, for every table: which element lies where, and the way back from each.
+#[tactic(auto, using(crate::proofs::Places::orders))]
 pub fn orders_agree<T: Copy>()
     ensures { (rows columns : ℕ) (xs : List T) → length xs ≡ rows * columns → Columnwise rows columns xs (interleaved rows columns xs) × Columnwise columns rows xs (deinterleaved rows columns xs) × (deinterleaved rows columns (interleaved rows columns xs) ≡ xs) × (interleaved rows columns (deinterleaved rows columns xs) ≡ xs) }
 {}
