@@ -1,4 +1,4 @@
-use Rattle.std.proofs.Common.{◌≡◌, ℕ, ◌+◌, ◌*◌, ◌<◌, ◌≤◌, leb, length, get_or, Some, Ok, Option, sym, refl, ap, ◌∙◌, subst, arith, zero-mul}
+use Rattle.std.proofs.Common.{◌≡◌, ℕ, ◌+◌, ◌*◌, ◌<◌, ◌≤◌, leb, length, Some, Ok, Option, sym, refl, ap, ◌∙◌, subst, arith, zero-mul}
 use Rattle.std.proofs.lemmas.Result.{err_from_is_err_and}
 use Rattle.catalogue.specs.Modes.{catalogue_meaning}
 use Rattle.catalogue.specs.declared.Catalogue.{Catalogue}
@@ -10,7 +10,6 @@ use Rattle.protocol.specs.Stands.{StandsOpen}
 use Rattle.burst.specs.Public.{open_kept, PlacedBy}
 use Rattle.burstfile.specs.declared.refused.FileRefusal.{FileRefusal}
 use Rattle.burstfile.specs.Refused.{numbered}
-use Rattle.burstfile.specs.Modes.{mode_number}
 use Rattle.burstfile.specs.Format.{symbols_of}
 use Rattle.burstfile.specs.Reading.{laid, size_of, contents_of, shown}
 use Rattle.burstfile.specs.Values.{or_else, numbered_fault, priors_fault, values_fault}
