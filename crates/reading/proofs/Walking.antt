@@ -17,7 +17,7 @@ use Rattle.burstfile.specs.declared.refused.FileRefusal.{FileRefusal}
 use Rattle.burstfile.specs.Refused.{in_record}
 use Rattle.burstfile.specs.Format.{Vector, VectorShape, Contents, Shape, channel_of, symbols_of}
 use Rattle.burstfile.specs.Reading.{Layout, size_of, vector_of, contents_of}
-use Rattle.burstfile.specs.Values.{fault_at, vector_fault, vectors_fault}
+use Rattle.burstfile.specs.Values.{vector_fault, vectors_fault}
 use Rattle.burstfile.proofs.Numbered.{record_passed, record_refused, records_passed}
 use Rattle.burstfile.proofs.Trips.{length-vectors_of}
 use Rattle.burstfile.proofs.Walks.{vector-at}
@@ -139,10 +139,6 @@ along_end C o₀ i k A e =
     )
 
 -- the shift is tested first
-pub shift_refused : (b : Bool) (e : Refusal) (x : Option FileRefusal) → need b Shift 0 accepted ≡ Err e → cond b x (Some (in_record 0 (fault_at Shift 0))) ≡ Some (in_record 0 e)
-shift_refused true e x h = cc
-shift_refused false e x h = cc
-
 pub shift_passed : (b : Bool) (x y : Option FileRefusal) → need b Shift 0 accepted ≡ accepted → cond b x y ≡ x
 shift_passed true x y h = refl
 shift_passed false x y h = cc

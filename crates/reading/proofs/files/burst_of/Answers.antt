@@ -1,5 +1,4 @@
 use Rattle.std.proofs.Common.{◌≡◌, ℕ, ◌≤◌, length, None, sym, ap, ◌∙◌, subst, arith}
-use Rattle.std.proofs.lemmas.Result.{err_from_is_err_and}
 use Rattle.constellation.specs.Meaning.{Meaning}
 use Rattle.catalogue.specs.Modes.{catalogue_meaning}
 use Rattle.catalogue.specs.declared.Catalogue.{Catalogue}
@@ -16,7 +15,6 @@ use Rattle.burstfile.specs.Reading.{laid, contents_of}
 use Rattle.burstfile.specs.Values.{values_fault, numbered_fault, priors_fault}
 use Rattle.burstfile.proofs.Ranges.{values_good}
 use Rattle.reading.specs.Held.{offered, placed_all, told_all, file_state, Filled}
-use Rattle.reading.proofs.Judging.{apart}
 use Rattle.reading.proofs.Offering.{offered_bits, few_bits}
 use Rattle.reading.proofs.Ready.{ready_few, ready_idle, ready_sized}
 use Rattle.reading.proofs.Spreading.{told-stands, told_count, all_inside}
@@ -101,18 +99,3 @@ returns c =
       subst (λ (r : Catalogue). length (closed_kept (catalogue_meaning r) l.table).symbols ≤ 128) (sym same) few,
       subst (λ (r : Catalogue). (catalogue_meaning r).m ≤ 8) (sym same) (omega (arith, m, few_bits C.mode)),
     )
-
-pub returns-in_err-placed : goal.returns-in_err-placed
-returns-in_err-placed c =
-    let p = err_from_is_err_and c.from_residual.result c.from_residual.ensures.1 in
-    rw (p.1, p.2) c.in_err-placed.ensures
-
-pub returns-in_err-check_priors : goal.returns-in_err-check_priors
-returns-in_err-check_priors c =
-    let F = c.in_ok-placed.ensures in
-    let p = err_from_is_err_and c.from_residual-in_err-check_priors.result c.from_residual-in_err-check_priors.ensures.1 in
-    rw (p.1, p.2) (F.fault ∙ ap (numbered_fault 0) c.in_err-check_priors.ensures)
-
-pub returns-in_err-tell_all : goal.returns-in_err-tell_all
-returns-in_err-tell_all c =
-    absurd (apart c.tell_all.result tt c.in_err-tell_all.field-0.0 c.tell_all.ensures.accepted c.in_err-tell_all.was)

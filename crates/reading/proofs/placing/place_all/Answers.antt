@@ -16,7 +16,7 @@ use Rattle.burstfile.specs.Values.{or_else, numbered_fault, priors_fault, values
 use Rattle.burstfile.proofs.Numbered.{numbered_ok, numbered_err}
 use Rattle.reading.specs.Held.{placing_of, placed_all}
 use Rattle.reading.proofs.Chunks.{chunks_past, chunk_within}
-use Rattle.reading.proofs.Walking.{along_start, record_turn, along_end, shift_refused, shift_passed}
+use Rattle.reading.proofs.Walking.{along_start, record_turn, along_end, shift_passed}
 use Rattle.reading.proofs.placing.place_all.Goals as goal
 
 -- a placing over one constellation is one over its equal
@@ -101,12 +101,6 @@ returns-in_err-in_record c =
     ∙ (ap (λ (q : Option FileRefusal). or_else q (numbered_fault 0 (priors_fault 1 C.priors))) (t.3 e.0 e.2) ∙ ap (λ (x : FileRefusal). Some x) (sym e.1)) in
     let p = err_from_is_err_and c.from_residual-in_err-in_record.result c.from_residual-in_err-in_record.ensures.1 in
     rw (p.1, p.2) fault
-
-pub returns-in_err-burst : goal.returns-in_err-burst
-returns-in_err-burst c =
-    let C = contents_of (laid c.args.file) in
-    let p = err_from_is_err_and c.from_residual.result c.from_residual.ensures.1 in
-    rw (p.1, p.2) (shift_refused (leb C.shift 40) c.in_err-burst.field-0.0 _ c.in_err-burst.ensures)
 
 pub returns : goal.returns
 returns c =
