@@ -1,10 +1,8 @@
 -- The walk over the chunks of a list: what is left after i of n chunks.
-use Rattle.std.proofs.Common.{◌≡◌, ℕ, zero, suc, ◌+◌, ◌-◌, ◌*◌, ◌<◌, ◌≤◌, leb, List, [], ◌∷◌, ◌++◌, length, get_or, take, drop, ℤ, sym, refl, zero-mul, ap, ◌∙◌, inl, inr, mul-le-mul_right, suc-mul, add-one, arith}
+use Rattle.std.proofs.Common.{◌≡◌, ℕ, zero, suc, ◌+◌, ◌-◌, ◌*◌, ◌<◌, ◌≤◌, leb, List, [], ◌∷◌, ◌++◌, length, take, drop, ℤ, sym, refl, zero-mul, ap, ◌∙◌, inl, inr, mul-le-mul_right, suc-mul, add-one, arith}
 use Rattle.std.proofs.lemmas.Bool.{leb-true, leb-false, cases_Bool}
 use Rattle.std.proofs.lemmas.List.{length-append, length-drop, drop-drop, take_at, drop_at}
-use Rattle.burstfile.specs.Format.{Vector}
-use Rattle.burstfile.specs.Reading.{signed_of, signeds_of, vector_of, vectors_of}
-use Rattle.burstfile.proofs.Walks.{vector-at}
+use Rattle.burstfile.specs.Reading.{signed_of, signeds_of}
 
 -- before the first chunk
 pub chunks_start : (size i : ℕ) (bs rest : List ℕ) → i ≡ 0 → rest ≡ bs → rest ≡ drop (i * size) bs

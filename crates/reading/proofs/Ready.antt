@@ -1,5 +1,5 @@
 -- A closed burst of a file is ready to be told the file's values.
-use Rattle.std.proofs.Common.{◌≡◌, ℕ, ◌+◌, ◌*◌, ◌<◌, ◌≤◌, true, false, ltb, List, length, Some, None, Ok, Err, Result, refl, ap, ◌∙◌, inl, inr, arith}
+use Rattle.std.proofs.Common.{◌≡◌, ℕ, ◌+◌, ◌*◌, ◌<◌, ◌≤◌, true, false, ltb, length, None, Ok, Err, Result, refl, ap, ◌∙◌, inl, inr, arith}
 use Rattle.std.proofs.lemmas.Bool.{eq-eqb, lt-ltb}
 use Rattle.std.proofs.lemmas.List.{length-map}
 use Rattle.metric.specs.Exhaustive.{Symbol}
@@ -10,11 +10,10 @@ use Rattle.protocol.specs.Calls.{State, closed, verdict, outline, taking, withdr
 use Rattle.protocol.specs.Stands.{Stands, erased_record}
 use Rattle.burstfile.specs.declared.refused.FileRefusal.{FileRefusal}
 use Rattle.burstfile.specs.Format.{Contents, Shape, symbols_of, bits_of}
-use Rattle.burstfile.specs.Reading.{Layout, cut, contents_of}
-use Rattle.burstfile.specs.Values.{values_fault, read_spec}
+use Rattle.burstfile.specs.Values.{values_fault}
 use Rattle.burstfile.proofs.Ranges.{values_good}
 use Rattle.catalogue.specs.Modes.{mode_meaning}
-use Rattle.reading.specs.Held.{Holds, file_state, placed_all, offered}
+use Rattle.reading.specs.Held.{Holds, placed_all, offered}
 use Rattle.reading.proofs.Spreading.{told-idle}
 
 module _ (C : Contents) (s : Shape C) (none : values_fault C ≡ None) (m : ℕ) (m-is : m ≡ bits_of C.mode) (o : OpenState Symbol)
@@ -36,13 +35,6 @@ module _ (C : Contents) (s : Shape C) (none : values_fault C ≡ None) (m : ℕ)
             let q : length k.symbols * m ≡ symbols_of C.mode (length C.vectors) * bits_of C.mode = cc (ready_count) in
             omega arith
       ]
-
--- what is read of the sections that stand
-pub held_as : (bs : List ℕ) (l : Layout) (number : ℕ) (k : State Record) → cut bs ≡ Ok l → values_fault (contents_of l) ≡ None → Stands k (file_state (contents_of l) number) → Holds (read_spec bs) number k
-held_as bs l number k e none h = rw (e, none) h
-
-pub refused_as : (bs : List ℕ) (l : Layout) (f : FileRefusal) → cut bs ≡ Ok l → values_fault (contents_of l) ≡ Some f → read_spec bs ≡ Err f
-refused_as bs l f e some = rw (e, some)
 
 -- a burst that was read is idle
 held-idle : (r : Result Contents FileRefusal) (number : ℕ) (k : State Record) → Holds r number k → (k.out ≡ false) × (k.given ≡ 0)

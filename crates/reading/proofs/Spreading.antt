@@ -110,11 +110,7 @@ module _ (k₀ k k' : State Record) (m i j : ℕ) (bs rest x r : List ℕ) (v : 
         chunk_after n (2 * m) i bs rest whole left x r some next len,
       )
 
--- no values, or all of them
-pub told_none : (k : State Record) (bs : List ℕ) → length bs ≡ 0 → k ≡ told_all k (signeds_of bs)
-told_none k [] e = refl
-told_none k (b ∷ bs) e = absurd (omega arith)
-
+-- past the last symbol
 pub told_end : (k₀ : State Record) (i : ℕ) (zs : List ℤ) → 0 < length zs → length k₀.symbols ≤ i → told_to i k₀ zs ≡ told_all k₀ zs
 told_end k₀ i [] some le = absurd (omega arith)
 told_end k₀ i (z ∷ zs) some le = ap (λ (ys : List (Placed Record)). with_symbols k₀ ys) (spread_all k₀.meaning.m i k₀.symbols (z ∷ zs) le)

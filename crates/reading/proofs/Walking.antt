@@ -17,7 +17,7 @@ use Rattle.burstfile.specs.declared.refused.FileRefusal.{FileRefusal}
 use Rattle.burstfile.specs.Refused.{in_record}
 use Rattle.burstfile.specs.Format.{Vector, VectorShape, Contents, Shape, channel_of, symbols_of}
 use Rattle.burstfile.specs.Reading.{Layout, size_of, vector_of, contents_of}
-use Rattle.burstfile.specs.Values.{fault_at, vector_fault, vectors_fault}
+use Rattle.burstfile.specs.Values.{vector_fault, vectors_fault}
 use Rattle.burstfile.proofs.Numbered.{record_passed, record_refused, records_passed}
 use Rattle.burstfile.proofs.Trips.{length-vectors_of}
 use Rattle.burstfile.proofs.Walks.{vector-at}
@@ -106,25 +106,25 @@ module _ (l : Layout) (s : Shape (contents_of l)) (o₀ : OpenState Symbol) (siz
   some : 0 < size
   some = omega (arith, sized)
 
-  pub turn_within : i < l.count
-  turn_within = chunk_within l.count size i l.records rest whole_chunks left x r some next len
+  lt : i < l.count
+  lt = chunk_within l.count size i l.records rest whole_chunks left x r some next len
 
   counted : i < length (contents_of l).vectors
-  counted = omega (arith, turn_within, length-vectors_of l.count (size_of l) l.antennas l.records)
+  counted = omega (arith, lt, length-vectors_of l.count (size_of l) l.antennas l.records)
 
   record_here : v ≡ get_or (contents_of l).vectors i v
   record_here =
       is ∙ (ap (vector_of l.antennas) (chunk_here l.count size i l.records rest whole_chunks left x r some next len ∙ ap (λ (n : ℕ). take n (drop (i * n) l.records)) sized)
-      ∙ sym (vector-at l.count i (size_of l) l.antennas l.records v turn_within))
+      ∙ sym (vector-at l.count i (size_of l) l.antennas l.records v lt))
 
-  pub turn_after : r ≡ drop ((i + 1) * size) l.records
-  turn_after = chunk_after l.count size i l.records rest whole_chunks left x r some next len
-
-  pub turn_passed : res ≡ Ok tt → Along (contents_of l) o₀ (i + 1) k'
-  turn_passed = along_step (contents_of l) s o₀ i k k' v res counted record_here A P
-
-  pub turn_refused : (f : Refusal) → res ≡ Err f → vectors_fault l.mode 1 (contents_of l).vectors ≡ Some (in_record (j + 1) f)
-  turn_refused f e = rw at (along_refused (contents_of l) s o₀ i k k' v res counted record_here A P f e)
+  pub record_turn : (i < l.count) × (r ≡ drop ((i + 1) * size) l.records) × (res ≡ Ok tt → Along (contents_of l) o₀ (i + 1) k')
+      × ((f : Refusal) → res ≡ Err f → vectors_fault l.mode 1 (contents_of l).vectors ≡ Some (in_record (j + 1) f))
+  record_turn = (
+    lt,
+    chunk_after l.count size i l.records rest whole_chunks left x r some next len,
+    along_step (contents_of l) s o₀ i k k' v res counted record_here A P,
+    λ f e. rw at (along_refused (contents_of l) s o₀ i k k' v res counted record_here A P f e),
+  )
 
 -- past the last record
 pub along_end : (C : Contents) (o₀ : OpenState Symbol) (i : ℕ) (k : OpenState Record) → Along C o₀ i k → length C.vectors ≡ i
@@ -139,10 +139,6 @@ along_end C o₀ i k A e =
     )
 
 -- the shift is tested first
-pub shift_refused : (b : Bool) (e : Refusal) (x : Option FileRefusal) → need b Shift 0 accepted ≡ Err e → cond b x (Some (in_record 0 (fault_at Shift 0))) ≡ Some (in_record 0 e)
-shift_refused true e x h = cc
-shift_refused false e x h = cc
-
 pub shift_passed : (b : Bool) (x y : Option FileRefusal) → need b Shift 0 accepted ≡ accepted → cond b x y ≡ x
 shift_passed true x y h = refl
 shift_passed false x y h = cc

@@ -11,9 +11,7 @@ ghost use Rattle.reading.specs.Held.{samples_of, placing_of, Filled};
 
 use arrayvec::ArrayVec;
 use burst::OpenBurst;
-use burstfile::{
-    File, FileRefusal, InRecord, Mode, Placing, RecordView, pair, record_view,
-};
+use burstfile::{File, FileRefusal, InRecord, Mode, Placing, RecordView, pair, record_view};
 use catalogue::Catalogue;
 use observation::Sample;
 use refusal::Refusal;

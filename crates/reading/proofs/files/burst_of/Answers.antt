@@ -1,5 +1,4 @@
 use Rattle.std.proofs.Common.{◌≡◌, ℕ, ◌≤◌, length, None, sym, ap, ◌∙◌, subst, arith}
-use Rattle.std.proofs.lemmas.Result.{err_from_is_err_and}
 use Rattle.constellation.specs.Meaning.{Meaning}
 use Rattle.catalogue.specs.Modes.{catalogue_meaning}
 use Rattle.catalogue.specs.declared.Catalogue.{Catalogue}
@@ -10,22 +9,25 @@ use Rattle.protocol.specs.Stands.{StandsOpen, Stands}
 use Rattle.burst.specs.Public.{open_kept, closed_kept, ClosedBy}
 use Rattle.burst.specs.declared.burst.OpenBurst.{OpenBurst}
 use Rattle.burst.specs.declared.burst.Burst.{Burst}
+use Rattle.burstfile.specs.declared.view.File.{File}
 use Rattle.burstfile.specs.Format.{Contents, Shape, bits_of}
 use Rattle.burstfile.specs.Reading.{laid, contents_of}
 use Rattle.burstfile.specs.Values.{values_fault, numbered_fault, priors_fault}
 use Rattle.burstfile.proofs.Ranges.{values_good}
 use Rattle.reading.specs.Held.{offered, placed_all, told_all, file_state, Filled}
-use Rattle.reading.proofs.Judging.{apart}
-use Rattle.reading.proofs.Offering.{offered-bits, few_bits}
+use Rattle.reading.proofs.Offering.{offered_bits, few_bits}
 use Rattle.reading.proofs.Ready.{ready_few, ready_idle, ready_sized}
 use Rattle.reading.proofs.Spreading.{told-stands, told_count, all_inside}
 use Rattle.catalogue.specs.Modes.{mode_meaning}
 use Rattle.reading.proofs.files.burst_of.Goals as goal
 
 -- the burst, once its records are placed and it is closed
-module _ (C : Contents) (s : Shape C) (number : ℕ) (c : Catalogue) (is : catalogue_meaning c ≡ offered (mode_meaning C.mode))
-    (placed : OpenBurst Catalogue) (F : Filled C c number placed) (none : priors_fault 1 C.priors ≡ None)
+module _ (f : File) (s : Shape (contents_of (laid f))) (number : ℕ) (c : Catalogue) (is : catalogue_meaning c ≡ offered (mode_meaning (contents_of (laid f)).mode))
+    (placed : OpenBurst Catalogue) (F : Filled (contents_of (laid f)) c number placed) (none : priors_fault 1 (contents_of (laid f)).priors ≡ None)
     (b : Burst Catalogue) (same : b.c ≡ placed.c) (P : ClosedBy (open_kept (catalogue_meaning placed.c) placed.draft) (closed_kept (catalogue_meaning b.c) b.table)) where
+  abbrev C : Contents
+  C = contents_of (laid f)
+
   no_fault : values_fault C ≡ None
   no_fault = F.fault ∙ ap (numbered_fault 0) none
 
@@ -36,9 +38,7 @@ module _ (C : Contents) (s : Shape C) (number : ℕ) (c : Catalogue) (is : catal
   stands = P.stands placings (subst (λ (q : Catalogue). StandsOpen (open_kept (catalogue_meaning q) placed.draft) placings) (sym F.same) F.stands)
 
   bits : (catalogue_meaning b.c).m ≡ bits_of C.mode
-  bits =
-      ap (λ (q : Catalogue). (catalogue_meaning q).m) (same ∙ F.same)
-      ∙ (ap (λ (M : Meaning). M.m) is ∙ offered-bits C.mode s.mode_low s.mode_high)
+  bits = ap (λ (q : Catalogue). (catalogue_meaning q).m) (same ∙ F.same) ∙ (ap (λ (M : Meaning). M.m) is ∙ offered_bits f.settings.mode)
 
 pub tell_all-requires : goal.tell_all-requires
 tell_all-requires c =
@@ -54,13 +54,13 @@ tell_all-requires c =
     let b = c.close-burst.result in
     let d = c.close-burst.ensures.same in
     let P = c.close-burst.ensures.closed in
-    let o = placings C s n k e a F z b d P in
-    let st = stands C s n k e a F z b d P in
-    let v = no_fault C s n k e a F z b d P in
-    let m = bits C s n k e a F z b d P in
+    let o = placings f s n k e a F z b d P in
+    let st = stands f s n k e a F z b d P in
+    let v = no_fault f s n k e a F z b d P in
+    let m = bits f s n k e a F z b d P in
     let q = closed_kept (catalogue_meaning b.c) b.table in
     record {
-      few = omega (arith, m, few_bits C.mode s.mode_low s.mode_high);
+      few = omega (arith, m, few_bits C.mode);
       count = ready_few C s v (catalogue_meaning b.c).m m o F.count q st;
       idle = ready_idle C s v (catalogue_meaning b.c).m m o F.count q st;
       sized = ready_sized C s v (catalogue_meaning b.c).m m o F.count q st (length f.priors.now) c.requires.whole.priors;
@@ -81,10 +81,10 @@ returns c =
     let b = c.close-burst.result in
     let d = c.close-burst.ensures.same in
     let P = c.close-burst.ensures.closed in
-    let o = placings C s n k e a F z b d P in
-    let st = stands C s n k e a F z b d P in
-    let v = no_fault C s n k e a F z b d P in
-    let m = bits C s n k e a F z b d P in
+    let o = placings f s n k e a F z b d P in
+    let st = stands f s n k e a F z b d P in
+    let v = no_fault f s n k e a F z b d P in
+    let m = bits f s n k e a F z b d P in
     let q = closed_kept (catalogue_meaning b.c) b.table in
     let l = c.tell_all.new.burst in
     let t = c.tell_all.ensures.told in
@@ -97,20 +97,5 @@ returns c =
       v,
       subst (λ (r : Catalogue). Stands (closed_kept (catalogue_meaning r) l.table) (file_state C n)) (sym same) full,
       subst (λ (r : Catalogue). length (closed_kept (catalogue_meaning r) l.table).symbols ≤ 128) (sym same) few,
-      subst (λ (r : Catalogue). (catalogue_meaning r).m ≤ 8) (sym same) (omega (arith, m, few_bits C.mode s.mode_low s.mode_high)),
+      subst (λ (r : Catalogue). (catalogue_meaning r).m ≤ 8) (sym same) (omega (arith, m, few_bits C.mode)),
     )
-
-pub returns-in_err-placed : goal.returns-in_err-placed
-returns-in_err-placed c =
-    let p = err_from_is_err_and c.from_residual.result c.from_residual.ensures.1 in
-    rw (p.1, p.2) c.in_err-placed.ensures
-
-pub returns-in_err-check_priors : goal.returns-in_err-check_priors
-returns-in_err-check_priors c =
-    let F = c.in_ok-placed.ensures in
-    let p = err_from_is_err_and c.from_residual-in_err-check_priors.result c.from_residual-in_err-check_priors.ensures.1 in
-    rw (p.1, p.2) (F.fault ∙ ap (numbered_fault 0) c.in_err-check_priors.ensures)
-
-pub returns-in_err-tell_all : goal.returns-in_err-tell_all
-returns-in_err-tell_all c =
-    absurd (apart c.tell_all.result tt c.in_err-tell_all.field-0.0 c.tell_all.ensures.accepted c.in_err-tell_all.was)

@@ -1,4 +1,4 @@
-use Rattle.std.proofs.Common.{◌≡◌, ℕ, ◌+◌, ◌*◌, ◌<◌, ◌≤◌, leb, length, get_or, Some, Ok, Option, sym, refl, ap, ◌∙◌, subst, arith, zero-mul}
+use Rattle.std.proofs.Common.{◌≡◌, ℕ, ◌+◌, ◌*◌, ◌<◌, ◌≤◌, leb, length, Some, Ok, Option, sym, refl, ap, ◌∙◌, subst, arith, zero-mul}
 use Rattle.std.proofs.lemmas.Result.{err_from_is_err_and}
 use Rattle.catalogue.specs.Modes.{catalogue_meaning}
 use Rattle.catalogue.specs.declared.Catalogue.{Catalogue}
@@ -10,14 +10,13 @@ use Rattle.protocol.specs.Stands.{StandsOpen}
 use Rattle.burst.specs.Public.{open_kept, PlacedBy}
 use Rattle.burstfile.specs.declared.refused.FileRefusal.{FileRefusal}
 use Rattle.burstfile.specs.Refused.{numbered}
-use Rattle.burstfile.specs.Modes.{mode_number}
 use Rattle.burstfile.specs.Format.{symbols_of}
 use Rattle.burstfile.specs.Reading.{laid, size_of, contents_of, shown}
 use Rattle.burstfile.specs.Values.{or_else, numbered_fault, priors_fault, values_fault}
 use Rattle.burstfile.proofs.Numbered.{numbered_ok, numbered_err}
 use Rattle.reading.specs.Held.{placing_of, placed_all}
 use Rattle.reading.proofs.Chunks.{chunks_past, chunk_within}
-use Rattle.reading.proofs.Walking.{along_start, turn_within, turn_after, turn_passed, turn_refused, along_end, shift_refused, shift_passed}
+use Rattle.reading.proofs.Walking.{along_start, record_turn, along_end, shift_passed}
 use Rattle.reading.proofs.placing.place_all.Goals as goal
 
 -- a placing over one constellation is one over its equal
@@ -66,15 +65,16 @@ loop-i-preserved c =
     let k = open_kept (catalogue_meaning b.c) c.loop-i.burst.draft in
     let k' = open_kept (catalogue_meaning b.c) c.place_record.new.burst.draft in
     let P = moved c.loop-i.burst.c b.c c.loop-i.burst.draft c.place_record.new.burst.draft (placing_of l.mode v) r c.loop-i.invariant.same c.place_record.ensures.placed in
-    let len = st.0.1.1 ∙ c.loop-i.invariant.size in
+    let t = record_turn l c.requires.shape o c.record_size-size.result it.count c.in-Some.i k k' it.iter.rest.now x left v r
+    c.record_size-size.ensures c.requires.whole.records c.loop-i.invariant.rest st.0.1.0 (st.0.1.1 ∙ c.loop-i.invariant.size) st.1 c.record_view-record.ensures.entry c.loop-i.invariant.along P in
     let said : c.in_record.result ≡ numbered (c.in-Some.i + 1) r = c.in_record.ensures ∙ ap (λ (n : ℕ). numbered n r) c.number_of.ensures in
     let ok : r ≡ Ok tt = numbered_ok (c.in-Some.i + 1) r c.in_record.result c.in_ok-in_record.field-0 said c.in_ok-in_record.was in
     record {
-      along = rw st.2 (turn_passed l c.requires.shape o c.record_size-size.result it.count c.in-Some.i k k' it.iter.rest.now x left v r c.record_size-size.ensures c.requires.whole.records c.loop-i.invariant.rest st.0.1.0 len st.1 c.record_view-record.ensures.entry c.loop-i.invariant.along P ok);
-      few = omega (arith, st.2, turn_within l c.requires.shape o c.record_size-size.result it.count c.in-Some.i k k' it.iter.rest.now x left v r c.record_size-size.ensures c.requires.whole.records c.loop-i.invariant.rest st.0.1.0 len st.1 c.record_view-record.ensures.entry c.loop-i.invariant.along P);
+      along = rw st.2 (t.2 ok);
+      few = omega (arith, st.2, t.0);
       same = c.place_record.ensures.same ∙ c.loop-i.invariant.same;
       size = st.0.0 ∙ c.loop-i.invariant.size;
-      rest = rw st.2 (turn_after l c.requires.shape o c.record_size-size.result it.count c.in-Some.i k k' it.iter.rest.now x left v r c.record_size-size.ensures c.requires.whole.records c.loop-i.invariant.rest st.0.1.0 len st.1 c.record_view-record.ensures.entry c.loop-i.invariant.along P);
+      rest = rw st.2 t.1;
     }
 
 pub returns-in_err-in_record : goal.returns-in_err-in_record
@@ -94,18 +94,13 @@ returns-in_err-in_record c =
     let P = moved c.loop-i.burst.c b.c c.loop-i.burst.draft c.place_record.new.burst.draft (placing_of l.mode v) r c.loop-i.invariant.same c.place_record.ensures.placed in
     let said : c.in_record.result ≡ numbered (c.in-Some.i + 1) r = c.in_record.ensures ∙ ap (λ (n : ℕ). numbered n r) c.number_of.ensures in
     let e = numbered_err (c.in-Some.i + 1) r c.in_record.result c.in_err-in_record.field-0.0 said c.in_err-in_record.was in
-    let refused = turn_refused l c.requires.shape o c.record_size-size.result it.count c.in-Some.i k k' it.iter.rest.now x left v r c.record_size-size.ensures c.requires.whole.records c.loop-i.invariant.rest st.0.1.0 (st.0.1.1 ∙ c.loop-i.invariant.size) st.1 c.record_view-record.ensures.entry c.loop-i.invariant.along P e.0 e.2 in
+    let t = record_turn l c.requires.shape o c.record_size-size.result it.count c.in-Some.i k k' it.iter.rest.now x left v r
+    c.record_size-size.ensures c.requires.whole.records c.loop-i.invariant.rest st.0.1.0 (st.0.1.1 ∙ c.loop-i.invariant.size) st.1 c.record_view-record.ensures.entry c.loop-i.invariant.along P in
     let fault : values_fault C ≡ Some c.in_err-in_record.field-0.0
     = shift_passed (leb C.shift 40) _ _ c.in_ok-burst.ensures.0
-    ∙ (ap (λ (q : Option FileRefusal). or_else q (numbered_fault 0 (priors_fault 1 C.priors))) refused ∙ ap (λ (x : FileRefusal). Some x) (sym e.1)) in
+    ∙ (ap (λ (q : Option FileRefusal). or_else q (numbered_fault 0 (priors_fault 1 C.priors))) (t.3 e.0 e.2) ∙ ap (λ (x : FileRefusal). Some x) (sym e.1)) in
     let p = err_from_is_err_and c.from_residual-in_err-in_record.result c.from_residual-in_err-in_record.ensures.1 in
     rw (p.1, p.2) fault
-
-pub returns-in_err-burst : goal.returns-in_err-burst
-returns-in_err-burst c =
-    let C = contents_of (laid c.args.file) in
-    let p = err_from_is_err_and c.from_residual.result c.from_residual.ensures.1 in
-    rw (p.1, p.2) (shift_refused (leb C.shift 40) c.in_err-burst.field-0.0 _ c.in_err-burst.ensures)
 
 pub returns : goal.returns
 returns c =

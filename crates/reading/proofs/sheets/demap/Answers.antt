@@ -1,6 +1,5 @@
-use Rattle.std.proofs.Common.{◌≡◌, ℕ, ◌*◌, ◌≤◌, length, take, refl, ap, arith}
+use Rattle.std.proofs.Common.{◌≡◌, ℕ, ◌*◌, ◌≤◌, length, take, ap, arith}
 use Rattle.std.proofs.lemmas.List.{length-take-le}
-use Rattle.std.proofs.lemmas.Result.{err_from_is_err_and}
 use Rattle.catalogue.specs.Modes.{catalogue_meaning}
 use Rattle.catalogue.specs.declared.Catalogue.{Catalogue}
 use Rattle.burst.specs.Public.{closed_kept}
@@ -14,18 +13,6 @@ use Rattle.reading.proofs.sheets.demap.Goals as goal
 room : (n m a b : ℕ) → n ≡ a → m ≡ b → a ≤ 128 → b ≤ 8 → n * m ≤ 1024
 room n m a b p q few wide = table_room n m (omega arith) (omega arith)
 
-pub overflow_mul-symbols : goal.overflow_mul-symbols
-overflow_mul-symbols c =
-    let H = c.in_ok-burst.ensures in
-    let r = room c.symbols-symbols.result c.positions-m.result _ _ c.symbols-symbols.ensures c.positions-m.ensures H.1 H.2 in
-    omega arith
-
-pub slice_bounds-take-end : goal.slice_bounds-take-end
-slice_bounds-take-end c =
-    let H = c.in_ok-burst.ensures in
-    let r = room c.symbols-symbols.result c.positions-m.result _ _ c.symbols-symbols.ensures c.positions-m.ensures H.1 H.2 in
-    omega (arith, c.told-sheet)
-
 pub returns : goal.returns
 returns c =
     let b = c.in_ok-burst.burst in
@@ -38,11 +25,6 @@ returns c =
     let k = closed_kept (catalogue_meaning b.c) b.table in
     let k' = closed_kept (catalogue_meaning b.c) c.take.new.self.table in
     demapped k k' n m (take (n * m) xs) c.take.new.sheet c.take.result c.symbols-symbols.ensures c.positions-m.ensures len c.take.ensures.taken (read_spec c.args.bytes.now) H.0 xs
-
-pub returns-in_err-burst : goal.returns-in_err-burst
-returns-in_err-burst c =
-    let p = err_from_is_err_and c.from_residual.result c.from_residual.ensures.1 in
-    rw (p.1, p.2) (c.in_err-burst.ensures, refl)
 
 pub returns-in_err-turn : goal.returns-in_err-turn
 returns-in_err-turn c =

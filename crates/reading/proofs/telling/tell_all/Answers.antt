@@ -1,11 +1,10 @@
-use Rattle.std.proofs.Common.{◌≡◌, ℕ, zero, suc, ◌+◌, ◌*◌, ◌<◌, ◌≤◌, Bool, false, eqb, List, length, take, drop, ℤ, ◌∙◌, ap₂, subst, arith}
+use Rattle.std.proofs.Common.{◌≡◌, ℕ, zero, suc, ◌*◌, ◌<◌, ◌≤◌, Bool, false, eqb, length, ◌∙◌, subst, arith}
 use Rattle.catalogue.specs.Modes.{catalogue_meaning}
 use Rattle.catalogue.specs.declared.Catalogue.{Catalogue}
 use Rattle.table.specs.declared.table.Table.{Table}
 use Rattle.protocol.specs.Verdicts.{Verdict}
-use Rattle.protocol.specs.Calls.{Call, tell}
+use Rattle.protocol.specs.Calls.{Call}
 use Rattle.burst.specs.Public.{closed_kept, Called}
-use Rattle.soft.proofs.Rows.{row_room}
 use Rattle.burstfile.specs.Reading.{signeds_of}
 use Rattle.burstfile.proofs.Walks.{halves}
 use Rattle.reading.proofs.Chunks.{chunks_past}
