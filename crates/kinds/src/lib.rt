@@ -2,7 +2,6 @@
 
 #![tactic(auto)]
 
-mod gray;
 pub mod psk;
 pub mod square;
 

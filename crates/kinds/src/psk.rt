@@ -6,8 +6,7 @@ ghost use Rattle.kinds.specs.KindLaws.{psk_lawful};
 ghost use Rattle.constellation.proofs.Points.{good_nth};
 
 use crate::IMAGINARY_SIGN;
-use crate::gray::gray;
-use constellation::{Constellation, Point};
+use constellation::{Constellation, Point, gray};
 use refusal::{Cause, Refusal};
 
 #[derive(Clone, Copy, PartialEq, Eq, Debug)]

@@ -2,13 +2,11 @@
 
 ghost use Rattle.std.specs.Prelude.{◌≡◌, ◌<◌};
 ghost use Rattle.kinds.specs.Squares.{square_meaning, square_of, step_of, half_of, side_of, magnitude_of, on_grid};
-ghost use Rattle.constellation.specs.Meaning.{place as place_of};
 ghost use Rattle.kinds.specs.KindLaws.{square_lawful};
 ghost use Rattle.constellation.proofs.Points.{good_nth};
 
 use crate::IMAGINARY_SIGN;
-use crate::gray::gray;
-use constellation::{Constellation, Point};
+use constellation::{Constellation, Point, gray, place};
 use refusal::{Cause, Refusal};
 
 #[derive(Clone, Copy, PartialEq, Eq, Debug)]
@@ -76,14 +74,6 @@ impl Square {
     }
 }
 
-/// The index, from 0, of the point of a number among so many points.
-fn place(number: usize, size: u8) -> u8
-    ensures { result ≡ place_of number size }
-{
-    let last = size.saturating_sub(1) as usize;
-    number.saturating_sub(1).min(last) as u8
-}
-
 impl Constellation for Square {
     ghost meaning = { square_meaning };
 
@@ -112,7 +102,7 @@ impl Constellation for Square {
     }
 
     fn point(&self, number: usize) -> Point {
-        let index = place(number, self.size());
+        let index = place(number, self.size() as usize) as u8;
         let index_bits = self.half() - 1;
         self.on_grid(index >> index_bits, index & ((1 << index_bits) - 1))
     }
