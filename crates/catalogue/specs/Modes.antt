@@ -1,14 +1,14 @@
 -- The catalogue: what each mode of a burst file means.
-use Rattle.std.specs.Prelude.{◌≡◌, ℕ, zero, suc, cond, List, [], ◌∷◌, Some, None, Option}
+use Rattle.std.specs.Prelude.{◌≡◌, ℕ, zero, suc, List, [], ◌∷◌, Some, None, Option}
 use Rattle.constellation.specs.Meaning.{Meaning}
 use Rattle.kinds.specs.Psks.{psk_meaning}
 use Rattle.kinds.specs.Squares.{square_meaning}
 use Rattle.kinds.specs.declared.psk.Psk.TheVariants.{Four, Eight, Sixteen}
 use Rattle.kinds.specs.declared.square.Square.TheVariants.{Sixteen as Square16, SixtyFour as Square64, TwoFiftySix as Square256}
-use Rattle.rings.specs.Layered.{stacked, room}
+use Rattle.rings.specs.Copies.{plan_of, ring_copies, ratio_copies}
+use Rattle.rings.specs.Layered.{stacked}
 use Rattle.rings.specs.Made.{rings_meaning, ratios_meaning}
-use Rattle.rings.specs.declared.plan.Plan.{Plan}
-use Rattle.rings.specs.declared.plan.Plan.TheVariants.{TwoRings, FourRings, TwoRatios, FourRatios}
+use Rattle.rings.specs.declared.count.Count.TheVariants.{Two as TwoRings, Four as FourRings}
 use Rattle.catalogue.specs.declared.Catalogue.{Catalogue}
 use Rattle.catalogue.specs.declared.Catalogue.TheVariants.{Psk, Square, Rings, Ratios}
 
@@ -34,19 +34,14 @@ modes =
     ∷ square_meaning Square16
     ∷ square_meaning Square64
     ∷ square_meaning Square256
-    ∷ stacked TwoRings (psk_meaning Eight)
-    ∷ stacked FourRings (psk_meaning Sixteen)
-    ∷ stacked TwoRatios (psk_meaning Eight)
-    ∷ stacked FourRatios (psk_meaning Sixteen)
+    ∷ stacked (plan_of ring_copies TwoRings) (psk_meaning Eight)
+    ∷ stacked (plan_of ring_copies FourRings) (psk_meaning Sixteen)
+    ∷ stacked (plan_of ratio_copies TwoRings) (psk_meaning Eight)
+    ∷ stacked (plan_of ratio_copies FourRings) (psk_meaning Sixteen)
     ∷ []
 
 abbrev pub mode_meaning : ℕ → Option Meaning
 mode_meaning mode = pick modes mode
-
--- what a layer means where it is one and fits
-abbrev pub fitted : Option Plan → Meaning → Option Meaning
-fitted None M = None
-fitted (Some plan) M = cond (room plan M) (Some (stacked plan M)) None
 
 -- a constellation of this meaning, or none
 abbrev pub Offered : Option Meaning → Option Catalogue → Type 0

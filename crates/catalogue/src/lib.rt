@@ -4,9 +4,7 @@
 
 ghost use Rattle.constellation.proofs.Points.{good_nth};
 ghost use Rattle.catalogue.specs.CatalogueLaws.{catalogue_lawful};
-ghost use Rattle.catalogue.specs.Modes.{mode_meaning, catalogue_meaning, Offered, fitted};
-ghost use Rattle.kinds.specs.Psks.{psk_meaning};
-ghost use Rattle.rings.specs.Made.{ring_plan, ratio_plan};
+ghost use Rattle.catalogue.specs.Modes.{mode_meaning, catalogue_meaning, Offered};
 
 use constellation::{Constellation, Point};
 use kinds::psk::Psk;
@@ -33,33 +31,25 @@ impl Catalogue {
             4 => Some(Catalogue::Square(Square::Sixteen)),
             5 => Some(Catalogue::Square(Square::SixtyFour)),
             6 => Some(Catalogue::Square(Square::TwoFiftySix)),
-            7 => ringed(Psk::Eight, 2),
-            8 => ringed(Psk::Sixteen, 4),
-            9 => rated(Psk::Eight, 2),
-            10 => rated(Psk::Sixteen, 4),
+            7 => Rings::new(Psk::Eight, 2).ok().map(Catalogue::Rings),
+            8 => Rings::new(Psk::Sixteen, 4).ok().map(Catalogue::Rings),
+            9 => Ratios::new(Psk::Eight, 2).ok().map(Catalogue::Ratios),
+            10 => Ratios::new(Psk::Sixteen, 4).ok().map(Catalogue::Ratios),
             _ => None,
         }
     }
 }
 
-/// So many rings over PSK, where they fit.
-fn ringed(below: Psk, rings: u32) -> Option<Catalogue>
-    ensures { Offered (fitted (ring_plan rings) (psk_meaning below)) result }
-{
-    match Rings::new(below, rings) {
-        Ok(layer) => Some(Catalogue::Rings(layer)),
-        Err(_) => None,
-    }
-}
-
-/// So many ratios over PSK, where they fit.
-fn rated(below: Psk, ratios: u32) -> Option<Catalogue>
-    ensures { Offered (fitted (ratio_plan ratios) (psk_meaning below)) result }
-{
-    match Ratios::new(below, ratios) {
-        Ok(layer) => Some(Catalogue::Ratios(layer)),
-        Err(_) => None,
-    }
+/// The same of each constellation, whichever of the four it is.
+macro_rules! of_each {
+    ($of:expr, $c:ident => $what:expr) => {
+        match $of {
+            Catalogue::Psk($c) => $what,
+            Catalogue::Square($c) => $what,
+            Catalogue::Rings($c) => $what,
+            Catalogue::Ratios($c) => $what,
+        }
+    };
 }
 
 impl Constellation for Catalogue {
@@ -70,47 +60,22 @@ impl Constellation for Catalogue {
     ghost good = { λ c n. good_nth _ (catalogue_lawful c) n };
 
     fn m(&self) -> u8 {
-        match self {
-            Catalogue::Psk(c) => c.m(),
-            Catalogue::Square(c) => c.m(),
-            Catalogue::Rings(c) => c.m(),
-            Catalogue::Ratios(c) => c.m(),
-        }
+        of_each!(self, c => c.m())
     }
 
     fn u(&self) -> u8 {
-        match self {
-            Catalogue::Psk(c) => c.u(),
-            Catalogue::Square(c) => c.u(),
-            Catalogue::Rings(c) => c.u(),
-            Catalogue::Ratios(c) => c.u(),
-        }
+        of_each!(self, c => c.u())
     }
 
     fn v(&self) -> u8 {
-        match self {
-            Catalogue::Psk(c) => c.v(),
-            Catalogue::Square(c) => c.v(),
-            Catalogue::Rings(c) => c.v(),
-            Catalogue::Ratios(c) => c.v(),
-        }
+        of_each!(self, c => c.v())
     }
 
     fn size(&self) -> u8 {
-        match self {
-            Catalogue::Psk(c) => c.size(),
-            Catalogue::Square(c) => c.size(),
-            Catalogue::Rings(c) => c.size(),
-            Catalogue::Ratios(c) => c.size(),
-        }
+        of_each!(self, c => c.size())
     }
 
     fn point(&self, number: usize) -> Point {
-        match self {
-            Catalogue::Psk(c) => c.point(number),
-            Catalogue::Square(c) => c.point(number),
-            Catalogue::Rings(c) => c.point(number),
-            Catalogue::Ratios(c) => c.point(number),
-        }
+        of_each!(self, c => c.point(number))
     }
 }

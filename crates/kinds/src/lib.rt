@@ -2,7 +2,7 @@
 
 #![tactic(auto)]
 
-mod gray;
+// Each kind is made by its `new`. A `TryFrom<u32>` beside it would be no plainer: nothing converts numbers in general, and `Psk::new(8)` names the kind at the call.
 pub mod psk;
 pub mod square;
 

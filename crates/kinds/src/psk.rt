@@ -1,13 +1,12 @@
 //! Phase-shift keying: 4, 8 or 16 points on one circle.
 
-ghost use Rattle.std.specs.Prelude.{◌≡◌};
-ghost use Rattle.kinds.specs.Psks.{psk_meaning, psk_of, on_circle};
+ghost use Rattle.std.specs.Prelude.{◌≡◌, map};
+ghost use Rattle.kinds.specs.Psks.{psk_meaning, psk_of, on_circle, circle};
 ghost use Rattle.kinds.specs.KindLaws.{psk_lawful};
 ghost use Rattle.constellation.proofs.Points.{good_nth};
 
 use crate::IMAGINARY_SIGN;
-use crate::gray::gray;
-use constellation::{Constellation, Point};
+use constellation::{Constellation, Point, gray, place};
 use refusal::{Cause, Refusal};
 
 #[derive(Clone, Copy, PartialEq, Eq, Debug)]
@@ -27,6 +26,17 @@ impl Psk {
             8 => Ok(Psk::Eight),
             16 => Ok(Psk::Sixteen),
             _ => Err(Cause::Size.at(0)),
+        }
+    }
+
+    /// The coordinates of the quadrant points, from the real axis on.
+    fn coordinates(self) -> &'static [(u16, u16)]
+        ensures { result.now ≡ map (λ p. (p.x, p.y)) (circle self) }
+    {
+        match self {
+            Psk::Four => &[(724, 724)],
+            Psk::Eight => &[(946, 392), (392, 946)],
+            Psk::Sixteen => &[(1004, 200), (851, 569), (569, 851), (200, 1004)],
         }
     }
 }
@@ -67,26 +77,13 @@ impl Constellation for Psk {
     }
 
     fn size(&self) -> u8 {
-        match self {
-            Psk::Four => 1,
-            Psk::Eight => 2,
-            Psk::Sixteen => 4,
-        }
+        self.coordinates().len() as u8
     }
 
     fn point(&self, number: usize) -> Point {
-        match self {
-            Psk::Four => on_circle(0, 724, 724),
-            Psk::Eight => match number {
-                0 | 1 => on_circle(0, 946, 392),
-                _ => on_circle(1, 392, 946),
-            },
-            Psk::Sixteen => match number {
-                0 | 1 => on_circle(0, 1004, 200),
-                2 => on_circle(1, 851, 569),
-                3 => on_circle(2, 569, 851),
-                _ => on_circle(3, 200, 1004),
-            },
-        }
+        let coordinates = self.coordinates();
+        let index = place(number, coordinates.len());
+        let (x, y) = coordinates[index];
+        on_circle(index as u8, x, y)
     }
 }

@@ -1,14 +1,13 @@
 //! Square QAM: 16, 64 or 256 points on a grid of evenly spaced coordinates.
 
-ghost use Rattle.std.specs.Prelude.{◌≡◌, ◌<◌};
-ghost use Rattle.kinds.specs.Squares.{square_meaning, square_of, step_of, half_of, side_of, magnitude_of, on_grid};
-ghost use Rattle.constellation.specs.Meaning.{place as place_of};
+ghost use Rattle.std.specs.Prelude.{◌≡◌, ◌<◌, length, slice_index_or};
+ghost use Rattle.constellation.specs.Meaning.{origin};
+ghost use Rattle.kinds.specs.Squares.{square_meaning, square_of, step_of, half_of, side_of, magnitude_of, on_grid, grid};
 ghost use Rattle.kinds.specs.KindLaws.{square_lawful};
 ghost use Rattle.constellation.proofs.Points.{good_nth};
 
 use crate::IMAGINARY_SIGN;
-use crate::gray::gray;
-use constellation::{Constellation, Point};
+use constellation::{Constellation, Point, gray, place};
 use refusal::{Cause, Refusal};
 
 #[derive(Clone, Copy, PartialEq, Eq, Debug)]
@@ -74,14 +73,16 @@ impl Square {
             label: (gray(imaginary) << self.half()) + gray(real),
         }
     }
-}
 
-/// The index, from 0, of the point of a number among so many points.
-fn place(number: usize, size: u8) -> u8
-    ensures { result ≡ place_of number size }
-{
-    let last = size.saturating_sub(1) as usize;
-    number.saturating_sub(1).min(last) as u8
+    /// The quadrant point of an index, from 0: the bits of the imaginary index, then those of the real one.
+    #[tactic(auto, using(crate::proofs::Grid::found_there))]
+    fn at(self, index: u8) -> Point
+        requires { index < length (grid self) }
+        ensures { result ≡ slice_index_or (grid self) index origin }
+    {
+        let index_bits = self.half() - 1;
+        self.on_grid(index >> index_bits, index & ((1 << index_bits) - 1))
+    }
 }
 
 impl Constellation for Square {
@@ -111,9 +112,8 @@ impl Constellation for Square {
         }
     }
 
+    #[tactic(auto, using(crate::proofs::Grid::some_point))]
     fn point(&self, number: usize) -> Point {
-        let index = place(number, self.size());
-        let index_bits = self.half() - 1;
-        self.on_grid(index >> index_bits, index & ((1 << index_bits) - 1))
+        self.at(place(number, self.size() as usize) as u8)
     }
 }

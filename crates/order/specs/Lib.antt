@@ -1,2 +1,3 @@
 pub mod OrderMade
+pub mod OrderLaws
 pub mod Once

@@ -1,14 +1,18 @@
 -- What the making of a bit order answers.
-use Rattle.std.specs.Prelude.{◌≡◌, ℕ, true, false, List, Ok, Err, Result}
+use Rattle.std.specs.Prelude.{◌≡◌, ℕ, true, false, cond, List, Ok, Err, Result}
 use Rattle.refusal.specs.declared.Cause.TheVariants.{Order as Unordered}
 use Rattle.refusal.specs.declared.Refusal.{Refusal}
 use Rattle.constellation.specs.Meaning.{Meaning}
-use Rattle.constellation.specs.Ordered.{permutes, ordered, shuffled}
+use Rattle.constellation.specs.Ordered.{permutes, shuffled}
 use Rattle.order.specs.declared.Order.{Order}
+
+-- over any meaning: where the list is no order of its bits, the one below
+abbrev pub arranged : List ℕ → Meaning → Meaning
+arranged ps M = cond (permutes M.m ps) (shuffled ps M) M
 
 -- what a bit order means, over what is below
 abbrev pub order_meaning : {C : Type 0} → (C → Meaning) → Order C → Meaning
-order_meaning meaning s = ordered s.list (meaning s.below)
+order_meaning meaning s = arranged s.list.items (meaning s.below)
 
 -- made exactly where the list has each of 1 to m once
 abbrev pub Ordering : {C : Type 0} → (C → Meaning) → C → List ℕ → Result (Order C) Refusal → Type 0

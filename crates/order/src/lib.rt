@@ -2,14 +2,17 @@
 
 #![tactic(auto)]
 
-mod list;
+mod bit_order;
 
-ghost use Rattle.constellation.proofs.OrderLaws.{ordered_lawful};
+ghost use Rattle.std.specs.Prelude.{◌≡◌, true, false, cond, MatchOption};
 ghost use Rattle.constellation.proofs.Points.{good_nth};
+ghost use Rattle.constellation.specs.Ordered.{position, permutes};
 ghost use Rattle.order.specs.Once.{TestStands};
+ghost use Rattle.order.specs.OrderLaws.{arranged_lawful};
 ghost use Rattle.order.specs.OrderMade.{Ordering, order_meaning};
 
-use crate::list::{find, is_order, moved, stored};
+use crate::bit_order::BitOrder;
+use arrayvec::ArrayVec;
 use constellation::{Constellation, Point};
 use refusal::{Cause, Refusal};
 
@@ -17,7 +20,7 @@ use refusal::{Cause, Refusal};
 #[derive(Drop)]
 pub struct Order<C> {
     below: C,
-    list: [u8; 8],
+    list: ArrayVec<u8, 8>,
 }
 
 impl<C: Constellation + Drop> Order<C> {
@@ -25,43 +28,49 @@ impl<C: Constellation + Drop> Order<C> {
     pub fn new(below: C, list: &[u8]) -> Result<Order<C>, Refusal>
         ensures { Ordering C.Constellation.meaning below list.now result }
     {
-        if !is_order(list, below.m()) {
-            return Err(Cause::Order.at(0));
+        let refused = Cause::Order.at(0);
+        let list = ArrayVec::try_from(list).or(Err(refused))?;
+        let made = Order { below, list };
+        if made.order().is_none() {
+            return Err(refused);
         }
-        let list = stored(list);
-        Ok(Order { below, list })
+        Ok(made)
+    }
+}
+
+impl<C: Constellation> Order<C> {
+    /// The order that the list is; where it is none for the bits below, the meaning is the one below.
+    fn order(&self) -> Option<BitOrder<'_>>
+        ensures { MatchOption result (permutes (C.Constellation.meaning self.now.below).m self.now.list.items ≡ false) (λ order. (permutes (C.Constellation.meaning self.now.below).m self.now.list.items ≡ true) × (order.list.now ≡ self.now.list.items)) }
+    {
+        BitOrder::new(self.list.as_slice(), self.below.m())
+    }
+
+    /// Where the bit of a position below stands.
+    fn position(&self, below: u8) -> u8
+        ensures { result ≡ cond (permutes (C.Constellation.meaning self.now.below).m self.now.list.items) (position below self.now.list.items) below }
+    {
+        self.order().map_or(below, |order| order.position(below))
     }
 }
 
 impl<C: Constellation> Constellation for Order<C> {
     ghost meaning = { order_meaning C.Constellation.meaning };
 
-    ghost lawful = { λ s. ordered_lawful s.list _ (C.Constellation.lawful s.below) };
+    ghost lawful = { λ s. arranged_lawful s.list.items _ (C.Constellation.lawful s.below) };
 
-    ghost good = { λ s n. good_nth _ (ordered_lawful s.list _ (C.Constellation.lawful s.below)) n };
+    ghost good = { λ s n. good_nth _ (arranged_lawful s.list.items _ (C.Constellation.lawful s.below)) n };
 
     fn m(&self) -> u8 {
         self.below.m()
     }
 
     fn u(&self) -> u8 {
-        let m = self.below.m();
-        let list = &self.list[0..m as usize];
-        if is_order(list, m) {
-            find(list, self.below.u())
-        } else {
-            self.below.u()
-        }
+        self.position(self.below.u())
     }
 
     fn v(&self) -> u8 {
-        let m = self.below.m();
-        let list = &self.list[0..m as usize];
-        if is_order(list, m) {
-            find(list, self.below.v())
-        } else {
-            self.below.v()
-        }
+        self.position(self.below.v())
     }
 
     fn size(&self) -> u8 {
@@ -70,13 +79,7 @@ impl<C: Constellation> Constellation for Order<C> {
 
     fn point(&self, number: usize) -> Point {
         let p = self.below.point(number);
-        let m = self.below.m();
-        let list = &self.list[0..m as usize];
-        if is_order(list, m) {
-            moved(list, m, p)
-        } else {
-            p
-        }
+        self.order().map_or(p, |order| order.relabel(p))
     }
 }
 

@@ -1,21 +1,18 @@
 -- A layer keeps the laws.
-use Rattle.std.proofs.Common.{◌≡◌, ℕ, zero, suc, ◌+◌, ◌*◌, ◌/◌, ◌%◌, ◌^◌, ◌<◌, ◌≤◌, Bool, true, cond, ◌&&◌, eqb, ltb, List, [], ◌∷◌, ◌++◌, map, length, get_or, sym, refl, ap, ◌∙◌, subst, not-suc-le-zero, suc-mul, mul_comm, mul-pos, mul-suc, arith, pow_mono}
+use Rattle.std.proofs.Common.{◌≡◌, ℕ, zero, suc, ◌+◌, ◌*◌, ◌/◌, ◌%◌, ◌^◌, ◌<◌, ◌≤◌, true, List, [], ◌∷◌, ◌++◌, map, length, get_or, sym, ap, ◌∙◌, subst, not-suc-le-zero, suc-mul, mul_comm, mul-pos, mul-suc, arith, pow_mono}
 use Rattle.std.specs.List.{flat_map, AllByRecursion}
 use Rattle.std.proofs.lemmas.Nat.{pow_pos, mul-add-lt, mod_below, shr_below, shr_split, div-add-mod', div_below}
 use Rattle.std.proofs.ByRecursion.{All-get_or, All-append, All-map, All-weaker}
 use Rattle.std.proofs.lemmas.List.{get_or_append_left, get_or-append-add, length-append, length-map, get_or-map}
-use Rattle.std.proofs.lemmas.Bool.{cond_both, cond-true, and_parts, leb-true, ltb-true, eqb-true}
+use Rattle.std.proofs.lemmas.Bool.{cond_both, cond-true, and_parts, leb-true}
 use Rattle.constellation.specs.Meaning.{Meaning, Lawful, Good, Carried, bit, origin, place, nth}
 use Rattle.constellation.specs.declared.Point.{Point}
-use Rattle.constellation.specs.Ordered.{each}
 use Rattle.constellation.proofs.Labels.{bit_above, bit_kept, label_fits}
 use Rattle.constellation.proofs.Points.{good_nth}
-use Rattle.constellation.proofs.Tested.{every_from}
-use Rattle.rings.specs.Copies.{nothing, copies, bits}
+use Rattle.rings.specs.Copies.{nothing, Plan}
+use Rattle.rings.specs.Fair.{Fair, Narrow}
 use Rattle.rings.specs.Layered.{copied, spread, copied_at, stacked, room, layered}
-use Rattle.rings.specs.declared.plan.Copied.{Copied}
-use Rattle.rings.specs.declared.plan.Plan.{Plan}
-use Rattle.rings.specs.declared.plan.Plan.TheVariants.{TwoRings, FourRings, TwoRatios, FourRatios}
+use Rattle.rings.specs.declared.copied.Copied.{Copied}
 
 -- each function of a list over each element of another
 module _ {R A B : Type 0} (f : R → A → B) (ps : List A) where
@@ -32,50 +29,6 @@ module _ {R A B : Type 0} (f : R → A → B) (ps : List A) where
   get_or-joined (c ∷ rs) (suc a) b z d e h k =
       let s : suc a * length ps + b ≡ length (map (f c) ps) + (a * length ps + b) = simp length-map (omega (arith, suc-mul a (length ps))) in
       ap (λ n. get_or (map (f c) ps ++ flat_map (λ a. map (f a) ps) rs) n d) s ∙ get_or-append-add (map (f c) ps) _ (a * length ps + b) d ∙ get_or-joined rs a b z d e (omega arith) k
-
--- the code fits k bits, and the numbers are small enough for the machine
-abbrev Narrow : ℕ → Copied → Type 0
-Narrow k t = (t.code < 2 ^ k) × (t.scale < 2 ^ 12) × (t.added < 2 ^ 24)
-
--- what a list of copies keeps, with codes of k bits
-pub record Fair (k : ℕ) (ts : List Copied) : Type 0 where
-  pub some : 1 ≤ length ts
-  pub narrow : AllByRecursion (Narrow k) ts
-  -- where a code is found
-  pub found : (g : ℕ) → g < 2 ^ k → (a : ℕ) × (a < length ts) × ((get_or ts a nothing).code ≡ g)
-
-abbrev narrowb : ℕ → List Copied → Bool
-narrowb k [] = true
-narrowb k (t ∷ ts) = (ltb t.code (2 ^ k) && (ltb t.scale (2 ^ 12) && ltb t.added (2 ^ 24))) && narrowb k ts
-
-narrow_from : (k : ℕ) (ts : List Copied) → narrowb k ts ≡ true → AllByRecursion (Narrow k) ts
-narrow_from k [] h = tt
-narrow_from k (t ∷ ts) h =
-    let a = and_parts (ltb t.code (2 ^ k) && (ltb t.scale (2 ^ 12) && ltb t.added (2 ^ 24))) _ h in
-    let b = and_parts (ltb t.code (2 ^ k)) _ a.0 in
-    let d = and_parts (ltb t.scale (2 ^ 12)) _ b.1 in
-    ((ltb-true _ _ b.0, ltb-true _ _ d.0, ltb-true _ _ d.1), narrow_from k ts a.1)
-
--- the first copy with a code
-abbrev holder : ℕ → List Copied → ℕ
-holder g [] = 0
-holder g (t ∷ ts) = cond (eqb t.code g) 0 (suc (holder g ts))
-
-abbrev heldb : List Copied → ℕ → Bool
-heldb ts g = ltb (holder g ts) (length ts) && eqb (get_or ts (holder g ts) nothing).code g
-
-fair_by : (k : ℕ) (ts : List Copied) → 1 ≤ length ts → narrowb k ts ≡ true → each (heldb ts) (2 ^ k) ≡ true → Fair k ts
-fair_by k ts s n h = record {
-  some = s;
-  narrow = narrow_from k ts n;
-  found = λ g l. let a = and_parts (ltb (holder g ts) (length ts)) _ (every_from (heldb ts) (2 ^ k) h g l) in (holder g ts, ltb-true _ _ a.0, eqb-true _ _ a.1);
-}
-
-pub fair : (plan : Plan) → Fair (bits plan) (copies plan)
-fair TwoRings = fair_by _ _ (omega arith) refl refl
-fair FourRings = fair_by _ _ (omega arith) refl refl
-fair TwoRatios = fair_by _ _ (omega arith) refl refl
-fair FourRatios = fair_by _ _ (omega arith) refl refl
 
 module _ (k : ℕ) (ts : List Copied) (F : Fair k ts) (M : Meaning) (L : Lawful M) where
   good_copied : (t : Copied) → t.code < 2 ^ k → (p : Point) → Good M.m M.u M.v p → Good (M.m + k) M.u M.v (copied k t p)
@@ -118,15 +71,14 @@ module _ (k : ℕ) (ts : List Copied) (F : Fair k ts) (M : Meaning) (L : Lawful 
   some_spread : 1 ≤ length M.points * length ts
   some_spread = mul-pos L.some F.some
 
-pub layered_lawful : (plan : Plan) (M : Meaning) → Lawful M → Lawful (layered plan M)
-layered_lawful plan M L =
+pub layered_lawful : (plan : Plan) → Fair plan.bits plan.copies → (M : Meaning) → Lawful M → Lawful (layered plan M)
+layered_lawful plan F M L =
     cond_both (room plan M) (stacked plan M) M Lawful
     (λ t.
     let fit = and_parts _ _ t in
     let narrow = leb-true _ _ fit.0 in
     let few = leb-true _ _ fit.1 in
-    let F = fair plan in
-    let size = length-spread (bits plan) (copies plan) F M L in
+    let size = length-spread plan.bits plan.copies F M L in
     record {
       m_least = omega (arith, L.m_least);
       m_most = narrow;
@@ -135,10 +87,10 @@ layered_lawful plan M L =
       v_least = L.v_least;
       v_most = omega (arith, L.v_most);
       apart = L.apart;
-      some = omega (arith, some_spread (bits plan) (copies plan) F M L);
+      some = omega (arith, some_spread plan.bits plan.copies F M L);
       few = omega arith;
-      good = good_spread (bits plan) (copies plan) F M L (copies plan) F.narrow;
-      carried = carried_spread (bits plan) (copies plan) F M L;
+      good = good_spread plan.bits plan.copies F M L plan.copies F.narrow;
+      carried = carried_spread plan.bits plan.copies F M L;
     })
     (λ _. L)
 
@@ -146,36 +98,35 @@ nth-under : (ps : List Point) (b : ℕ) → b < length ps → nth ps (b + 1) ≡
 nth-under ps b h = let e : place (b + 1) (length ps) ≡ b = omega arith in ap (λ z. get_or ps z origin) e
 
 -- a layer that fits
-module _ (plan : Plan) (M : Meaning) (L : Lawful M) (t : room plan M ≡ true) where
-  pub layered_points : (layered plan M).points ≡ spread (bits plan) (copies plan) M.points
+module _ (plan : Plan) (F : Fair plan.bits plan.copies) (M : Meaning) (L : Lawful M) (t : room plan M ≡ true) where
+  pub layered_points : (layered plan M).points ≡ spread plan.bits plan.copies M.points
   layered_points = ap (λ N. N.points) (cond-true (room plan M) (stacked plan M) M t)
 
-  pub layered-size : length (layered plan M).points ≡ length M.points * length (copies plan)
-  layered-size = ap length layered_points ∙ length-spread (bits plan) (copies plan) (fair plan) M L
+  pub layered_size : length (layered plan M).points ≡ length M.points * length plan.copies
+  layered_size = ap length layered_points ∙ length-spread plan.bits plan.copies F M L
 
-  pub layered_some : 1 ≤ length M.points * length (copies plan)
-  layered_some = some_spread (bits plan) (copies plan) (fair plan) M L
+  pub layered_some : 1 ≤ length M.points * length plan.copies
+  layered_some = some_spread plan.bits plan.copies F M L
 
-  module _ (i : ℕ) (within : i < length M.points * length (copies plan)) where
-    pub copy_within : i / length M.points < length (copies plan)
-    copy_within = div_below i (length M.points) (length (copies plan)) L.some (omega (arith, mul_comm (length M.points) (length (copies plan))))
+  module _ (i : ℕ) (within : i < length M.points * length plan.copies) where
+    pub copy_within : i / length M.points < length plan.copies
+    copy_within = div_below i (length M.points) (length plan.copies) L.some (omega (arith, mul_comm (length M.points) (length plan.copies)))
 
-    pub copy_narrow : Narrow (bits plan) (get_or (copies plan) (i / length M.points) nothing)
-    copy_narrow = All-get_or _ (copies plan) (i / length M.points) nothing copy_within (fair plan).narrow
+    pub copy_narrow : Narrow plan.bits (get_or plan.copies (i / length M.points) nothing)
+    copy_narrow = All-get_or _ plan.copies (i / length M.points) nothing copy_within F.narrow
 
-    pub label_room : (n : ℕ) → (nth M.points n).label * 2 ^ bits plan + (get_or (copies plan) (i / length M.points) nothing).code < 2 ^ 8
+    pub label_room : (n : ℕ) → (nth M.points n).label * 2 ^ plan.bits + (get_or plan.copies (i / length M.points) nothing).code < 2 ^ 8
     label_room n =
         let narrow = leb-true _ _ (and_parts _ _ t).0 in
-        let top : 2 ^ (M.m + bits plan) ≤ 2 ^ 8 = pow_mono narrow in
-        omega (arith, label_fits M.m (bits plan) (nth M.points n).label (get_or (copies plan) (i / length M.points) nothing).code (good_nth M L n).fits copy_narrow.0)
+        let top : 2 ^ (M.m + plan.bits) ≤ 2 ^ 8 = pow_mono narrow in
+        omega (arith, label_fits M.m plan.bits (nth M.points n).label (get_or plan.copies (i / length M.points) nothing).code (good_nth M L n).fits copy_narrow.0)
 
-    pub layered-at : (number : ℕ) → place number (length M.points * length (copies plan)) ≡ i → nth (layered plan M).points number ≡ copied_at plan M.points i
-    layered-at number e =
+    pub layered_at : get_or (layered plan M).points i origin ≡ copied_at plan M.points i
+    layered_at =
         let size : ℕ = length M.points in
-        let all : List Point = spread (bits plan) (copies plan) M.points in
+        let all : List Point = spread plan.bits plan.copies M.points in
         let low : i % size < size = mod_below i size L.some in
-        ap (λ ps. nth ps number) layered_points
-        ∙ ap (λ z. get_or all (place number z) origin) (length-spread (bits plan) (copies plan) (fair plan) M L)
-        ∙ ap (λ z. get_or all z origin) (e ∙ sym (div-add-mod' i size))
-        ∙ get_or-spread (bits plan) (copies plan) (fair plan) M L (i / size) (i % size) copy_within low
-        ∙ ap (copied (bits plan) (get_or (copies plan) (i / size) nothing)) (sym (nth-under M.points (i % size) low))
+        ap (λ ps. get_or ps i origin) layered_points
+        ∙ ap (λ z. get_or all z origin) (sym (div-add-mod' i size))
+        ∙ get_or-spread plan.bits plan.copies F M L (i / size) (i % size) copy_within low
+        ∙ ap (copied plan.bits (get_or plan.copies (i / size) nothing)) (sym (nth-under M.points (i % size) low))

@@ -3,9 +3,8 @@ use Rattle.std.specs.Prelude.{ℕ, ◌+◌, ◌*◌, ◌/◌, ◌%◌, ◌^◌, 
 use Rattle.std.specs.List.{flat_map}
 use Rattle.constellation.specs.Meaning.{Meaning, nth}
 use Rattle.constellation.specs.declared.Point.{Point}
-use Rattle.rings.specs.Copies.{nothing, copies, bits}
-use Rattle.rings.specs.declared.plan.Copied.{Copied}
-use Rattle.rings.specs.declared.plan.Plan.{Plan}
+use Rattle.rings.specs.Copies.{nothing, Plan}
+use Rattle.rings.specs.declared.copied.Copied.{Copied}
 
 -- a coordinate times r / 1024, rounded to the nearest
 abbrev pub scaled : ℕ → ℕ → ℕ
@@ -21,15 +20,15 @@ spread k ts ps = flat_map (λ t. map (copied k t) ps) ts
 
 -- the point of index i among them
 abbrev pub copied_at : Plan → List Point → ℕ → Point
-copied_at plan ps i = copied (bits plan) (slice_index_or (copies plan) (i / length ps) nothing) (nth ps (i % length ps + 1))
+copied_at plan ps i = copied plan.bits (slice_index_or plan.copies (i / length ps) nothing) (nth ps (i % length ps + 1))
 
 -- the layer's meaning over what is below
 abbrev pub stacked : Plan → Meaning → Meaning
-stacked plan M = record { m = M.m + bits plan; u = M.u; v = M.v; points = spread (bits plan) (copies plan) M.points }
+stacked plan M = record { m = M.m + plan.bits; u = M.u; v = M.v; points = spread plan.bits plan.copies M.points }
 
 -- the layer passes neither 8 bits nor 64 points of the quadrant
 abbrev pub room : Plan → Meaning → Bool
-room plan M = nat_le (M.m + bits plan) 8 && nat_le (length M.points * length (copies plan)) 64
+room plan M = nat_le (M.m + plan.bits) 8 && nat_le (length M.points * length plan.copies) 64
 
 -- over any meaning: where the layer would not fit, the one below
 abbrev pub layered : Plan → Meaning → Meaning

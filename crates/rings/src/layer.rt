@@ -1,94 +1,80 @@
-//! A layer: copies of the points below, by a plan.
+//! A layer: copies of the points below.
 
-ghost use Rattle.std.specs.Prelude.{◌≡◌, ◌+◌, ◌*◌, ◌^◌, ◌<◌, ◌≤◌, true, length, Some};
-ghost use Rattle.constellation.specs.Meaning.{place};
+ghost use Rattle.std.specs.Prelude.{◌≡◌, ◌*◌, ◌<◌, true, length, slice_index_or};
+ghost use Rattle.constellation.specs.Meaning.{origin};
 ghost use Rattle.constellation.proofs.Points.{good_nth};
 ghost use Rattle.rings.specs.LayerLaws.{layered_lawful};
-ghost use Rattle.rings.specs.Copies.{copies};
-ghost use Rattle.rings.specs.Layered.{scaled, copied, copied_at, room};
-ghost use Rattle.rings.specs.Made.{Answered, layer_meaning};
+ghost use Rattle.rings.specs.Copies.{plan_of};
+ghost use Rattle.rings.specs.Layered.{room};
+ghost use Rattle.rings.specs.Made.{Answered, layer_meaning, numbered};
 
-use crate::plan::{Copied, Plan};
-use constellation::{Constellation, Point};
+use crate::count::Count;
+use crate::kind::Kind;
+use constellation::{Constellation, Point, place};
 use refusal::{Cause, Refusal};
+use std::marker::PhantomData;
 
-/// The copies that `plan` makes of the points below.
+/// The copies that a kind of layer makes of the points below.
 #[derive(Drop)]
-pub struct Layer<C> {
+pub struct Layer<C, K> {
     below: C,
-    plan: Plan,
+    count: Count,
+    kind: PhantomData<K>,
 }
 
-// A coordinate times `by` / 1024, rounded to the nearest.
-fn scale(by: u32, coordinate: u16) -> u16
-    requires { by < 2 ^ 12 }
-    ensures { result ≡ scaled by coordinate }
-{
-    ((by * (coordinate as u32) + 512) / 1024).min(4095) as u16
-}
-
-// A point in one copy, with a code of `bits` bits.
-fn lift(bits: u8, by: Copied, p: Point) -> Point
-    requires narrow { bits ≤ 2 }
-    requires small { (by.scale < 2 ^ 12) × ((by.added < 2 ^ 24) × (p.e ≤ 2 ^ 27)) }
-    requires fits { p.label * 2 ^ bits + by.code < 2 ^ 8 }
-    ensures { result ≡ copied bits by p }
-{
-    Point {
-        x: scale(by.scale, p.x),
-        y: scale(by.scale, p.y),
-        e: (p.e + by.added).min(1 << 27),
-        label: (p.label << bits) + by.code,
-    }
-}
-
-fn fits<C: Constellation>(below: &C, plan: Plan) -> bool
-    ensures { result ≡ room plan (C.Constellation.meaning below.now) }
-{
-    below.m() + plan.bits() <= 8 && (below.size() as usize) * plan.copies() <= 64
-}
-
-// The index of a number, counted from 1, among `size` points.
-fn index(number: usize, size: usize) -> usize
-    requires { 1 ≤ size }
-    ensures value { result ≡ place number size }
-    ensures within { result < size }
-{
-    number.saturating_sub(1).min(size - 1)
-}
-
-// The point of index i: every point below in the first copy, then in the next.
-fn nth_copied<C: Constellation>(below: &C, plan: Plan, i: usize) -> Point
-    requires fits { room plan (C.Constellation.meaning below.now) ≡ true }
-    requires within { i < length (C.Constellation.meaning below.now).points * length (copies plan) }
-    ensures { result ≡ copied_at plan (C.Constellation.meaning below.now).points i }
-{
-    let size = below.size() as usize;
-    lift(plan.bits(), plan.copy(i / size), below.point(i % size + 1))
-}
-
-impl<C: Constellation + Drop> Layer<C> {
-    /// The layer, where it fits.
-    pub fn new(below: C, plan: Plan) -> Result<Layer<C>, Refusal>
-        ensures { Answered (layer_meaning C.Constellation.meaning) (C.Constellation.meaning below) (Some plan) result }
+impl<C: Constellation + Drop, K: Kind + Drop> Layer<C, K> {
+    /// The layer of 2 or 4 rings over `below`. Refused: another number of rings, then what would pass 8 bits or 64 quadrant points.
+    pub fn new(below: C, number: u32) -> Result<Layer<C, K>, Refusal>
+        ensures { Answered (layer_meaning K.Kind.copies C.Constellation.meaning) (C.Constellation.meaning below) (numbered K.Kind.copies number) result }
     {
-        if !fits(&below, plan) {
+        let count = Count::new(number).ok_or(Cause::Size.at(0))?;
+        let kind = PhantomData;
+        let layer = Layer { below, count, kind };
+        if !layer.fits() {
             return Err(Cause::Fit.at(0));
         }
-        Ok(Layer { below, plan })
+        Ok(layer)
     }
 }
 
-impl<C: Constellation> Constellation for Layer<C> {
-    ghost meaning = { layer_meaning C.Constellation.meaning };
+impl<C: Constellation, K: Kind> Layer<C, K> {
+    fn fits(&self) -> bool
+        ensures { result ≡ room (plan_of K.Kind.copies self.now.count) (C.Constellation.meaning self.now.below) }
+    {
+        self.below.m() + self.count.bits() <= 8 && self.all() <= 64
+    }
 
-    ghost lawful = { λ s. layered_lawful s.plan _ (C.Constellation.lawful s.below) };
+    /// How many points the copies have in all.
+    fn all(&self) -> usize
+        ensures value { result ≡ length (C.Constellation.meaning self.now.below).points * length (K.Kind.copies self.now.count) }
+        ensures where_it_fits { room (plan_of K.Kind.copies self.now.count) (C.Constellation.meaning self.now.below) ≡ true → result ≡ length (layer_meaning K.Kind.copies C.Constellation.meaning self.now).points }
+    {
+        self.below.size() as usize * K::scales(self.count).len()
+    }
 
-    ghost good = { λ s n. good_nth _ (layered_lawful s.plan _ (C.Constellation.lawful s.below)) n };
+    /// The point of an index, from 0: every point below in the first copy, then in the next.
+    fn at(&self, index: usize) -> Point
+        requires fits { room (plan_of K.Kind.copies self.now.count) (C.Constellation.meaning self.now.below) ≡ true }
+        requires within { index < length (C.Constellation.meaning self.now.below).points * length (K.Kind.copies self.now.count) }
+        ensures { result ≡ slice_index_or (layer_meaning K.Kind.copies C.Constellation.meaning self.now).points index origin }
+    {
+        let size = self.below.size() as usize;
+        let by = K::copy(self.count, index / size);
+        by.lift(self.count.bits(), self.below.point(index % size + 1))
+    }
+}
+
+// Each method asks again whether the layer fits, and where it would not is that of the one below: so the laws need no invariant of the struct.
+impl<C: Constellation, K: Kind> Constellation for Layer<C, K> {
+    ghost meaning = { layer_meaning K.Kind.copies C.Constellation.meaning };
+
+    ghost lawful = { λ s. layered_lawful (plan_of K.Kind.copies s.count) (K.Kind.fair s.count) _ (C.Constellation.lawful s.below) };
+
+    ghost good = { λ s n. good_nth _ (layered_lawful (plan_of K.Kind.copies s.count) (K.Kind.fair s.count) _ (C.Constellation.lawful s.below)) n };
 
     fn m(&self) -> u8 {
-        if fits(&self.below, self.plan) {
-            self.below.m() + self.plan.bits()
+        if self.fits() {
+            self.below.m() + self.count.bits()
         } else {
             self.below.m()
         }
@@ -103,18 +89,18 @@ impl<C: Constellation> Constellation for Layer<C> {
     }
 
     fn size(&self) -> u8 {
-        if fits(&self.below, self.plan) {
-            self.below.size() * (self.plan.copies() as u8)
+        if self.fits() {
+            self.all() as u8
         } else {
             self.below.size()
         }
     }
 
     fn point(&self, number: usize) -> Point {
-        if !fits(&self.below, self.plan) {
-            return self.below.point(number);
+        if self.fits() {
+            self.at(place(number, self.all()))
+        } else {
+            self.below.point(number)
         }
-        let all = (self.below.size() as usize) * self.plan.copies();
-        nth_copied(&self.below, self.plan, index(number, all))
     }
 }

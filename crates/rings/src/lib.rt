@@ -2,10 +2,16 @@
 
 #![tactic(auto)]
 
+mod copied;
+mod count;
+mod kind;
 mod layer;
-mod plan;
 mod ratios;
 mod rings;
 
-pub use crate::ratios::Ratios;
-pub use crate::rings::Rings;
+pub use crate::copied::Copied;
+pub use crate::count::Count;
+pub use crate::kind::Kind;
+pub use crate::layer::Layer;
+pub use crate::ratios::{AtRatios, Ratios};
+pub use crate::rings::{OnRings, Rings};
