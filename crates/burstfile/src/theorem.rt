@@ -12,8 +12,6 @@ pub fn are_bytes(bytes: &[u8])
 }
 
 /// Reading accepts exactly the encodings of contents within their rules, over every list of bytes.
-pub fn accepts_encodings() -> u8
+pub fn accepts_encodings()
     ensures { AcceptsEncodings }
-{
-    0
-}
+{}

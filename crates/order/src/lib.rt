@@ -84,8 +84,6 @@ impl<C: Constellation> Constellation for Order<C> {
 }
 
 /// The test of a bit order passes exactly where the list is each of 1 to m once.
-pub fn test_stands() -> u8
+pub fn test_stands()
     ensures { TestStands }
-{
-    0
-}
+{}
