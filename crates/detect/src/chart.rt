@@ -21,6 +21,7 @@ fn points_of<C: Constellation>(c: &C) -> ArrayVec<Point, 64>
     ensures { result.items ≡ (C.Constellation.meaning c.now).points }
 {
     let mut points = ArrayVec::new();
+    // Over numbers, since a constellation answers by number; `collect` would ask for an allocator and could fail.
     for number in 1..=c.size() as usize {
         points.push(c.point(number));
     }
