@@ -6,8 +6,8 @@ use Rattle.std.proofs.lemmas.Bool.{le-leb, lt-leb, ltb-true, ltb-false}
 use Rattle.std.specs.List.{position_or_len}
 use Rattle.std.specs.Simd.{first_chunks}
 use Rattle.refusal.specs.declared.Cause.TheVariants.{Range}
-use Rattle.burstfile.specs.Format.{Vector}
-use Rattle.burstfile.specs.Reading.{signed_of, signeds_of, vector_of, vectors_of}
+use Rattle.burstfile.specs.Format.{Pair, Vector}
+use Rattle.burstfile.specs.Reading.{signed_of, signeds_of, pair_of, pairs_of, vector_of, vectors_of}
 use Rattle.burstfile.specs.Values.{fault_at, priors_fault, is_outside, InsideTo, FirstOutside}
 
 -- two bytes a number
@@ -25,6 +25,21 @@ signed-at (a ∷ b ∷ bs) zero d lt = refl
 signed-at (a ∷ b ∷ bs) (suc k) d lt =
     let e : suc k * 2 ≡ suc (suc (k * 2)) = omega arith in
     rw e (signed-at bs k d (omega arith))
+
+-- pair k stands in the bytes at 4k
+pub pair-at : (bs : List ℕ) (k : ℕ) (d : Pair) → k * 4 + 4 ≤ length bs
+    → get_or (pairs_of bs) k d
+    ≡ pair_of
+    (signed_of (get_or (take 4 (drop (k * 4) bs)) 0 0) (get_or (take 4 (drop (k * 4) bs)) 1 0))
+    (signed_of (get_or (take 4 (drop (k * 4) bs)) 2 0) (get_or (take 4 (drop (k * 4) bs)) 3 0))
+pair-at [] k d lt = absurd (omega arith)
+pair-at (a ∷ []) k d lt = absurd (omega arith)
+pair-at (a ∷ b ∷ []) k d lt = absurd (omega arith)
+pair-at (a ∷ b ∷ c ∷ []) k d lt = absurd (omega arith)
+pair-at (a ∷ b ∷ c ∷ e ∷ bs) zero d lt = refl
+pair-at (a ∷ b ∷ c ∷ e ∷ bs) (suc k) d lt =
+    let m : suc k * 4 ≡ suc (suc (suc (suc (k * 4)))) = omega arith in
+    rw m (pair-at bs k d (omega arith))
 
 -- record i of n lies within the bytes
 pub row_within : (n i size r : ℕ) (bs : List ℕ) → i < n → length bs ≡ n * size → r ≡ size → i * r + r ≤ length bs

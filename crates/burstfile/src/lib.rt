@@ -14,8 +14,8 @@ mod view;
 
 pub use layout::sections;
 pub use mode::{Mode, Placing, UnknownMode};
-pub use numbers::{check_priors, first_outside, pair, part, value};
-pub use records::record_view;
+pub use numbers::{check_priors, first_outside, pair, pair_at, part, value, value_at};
+pub use records::{record_size, record_view};
 pub use refused::{FileRefusal, InRecord};
 pub use theorem::{accepts_encodings, are_bytes};
 pub use view::{File, RecordView, Settings};

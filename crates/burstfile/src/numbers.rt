@@ -36,6 +36,22 @@ pub fn part(bytes: &[u8], k: usize, size: usize) -> &[u8]
     &bytes[k * size..][..size]
 }
 
+/// The number at `k`, from 0.
+pub fn value_at(values: &[u8], k: usize) -> i16
+    requires { k * 2 + 2 ≤ length values.now }
+    ensures { result ≡ slice_index_or (signeds_of values.now) k (pos 0) }
+{
+    value(part(values, k, 2))
+}
+
+/// The pair at `k`, from 0.
+pub fn pair_at(pairs: &[u8], k: usize) -> (i16, i16)
+    requires { k * 4 + 4 ≤ length pairs.now }
+    ensures { pair_of result.0 result.1 ≡ slice_index_or (pairs_of pairs.now) k (pair_of (pos 0) (pos 0)) }
+{
+    pair(part(pairs, k, 4))
+}
+
 /// How many values come before the first outside -8191 to 8191, if there is one.
 fn inside_before(priors: &[u8]) -> Option<usize>
     ensures first { result ≡ position is_outside (first_chunks 2 (length priors.now / 2) priors.now) }

@@ -1,25 +1,32 @@
 //! The records of a file, each taken out of its bytes when it is asked for.
 
-ghost use Rattle.std.specs.Prelude.{◌≡◌, ◌+◌, ◌*◌, ◌<◌, ◌≤◌, length, slice_index_or};
+ghost use Rattle.std.specs.Prelude.{◌≡◌, ℕ, ◌+◌, ◌*◌, ◌<◌, ◌≤◌, length, nat_le, slice_index_or};
 ghost use Rattle.burstfile.specs.Reading.{Whole, laid, contents_of, vector_of, shown};
-ghost use Rattle.burstfile.specs.Modes.{mode_number};
+ghost use Rattle.burstfile.specs.Modes.{mode_number, is_coherent};
 ghost use Rattle.burstfile.specs.Format.{vector_size, channel_of};
 
 use crate::mode::Placing;
 use crate::numbers::part;
 use crate::view::{File, RecordView, Settings};
 
+/// The bytes of a record over so many antennas: its weight, y, and h where it is placed coherently, as in the modes up to 8.
+pub fn record_size(placing: Placing, antennas: u8) -> usize
+    ensures { (mode : ℕ) → is_coherent placing ≡ nat_le mode 8 → result ≡ vector_size antennas (channel_of mode antennas) }
+{
+    let y = 4 * antennas as usize;
+    let h = match placing {
+        Placing::Coherent => y,
+        Placing::Differential => 0,
+    };
+    2 + y + h
+}
+
 impl Settings {
     /// The bytes of a record.
     pub fn record_size(self) -> usize
         ensures { result ≡ vector_size self.antennas (channel_of (mode_number self.mode) self.antennas) }
     {
-        let y = 4 * self.antennas as usize;
-        let h = match self.mode.placing() {
-            Placing::Coherent => y,
-            Placing::Differential => 0,
-        };
-        2 + y + h
+        record_size(self.mode.placing(), self.antennas)
     }
 }
 
