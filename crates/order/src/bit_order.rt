@@ -28,41 +28,49 @@ fn find(list: &[u8], q: u8) -> u8
     index_of(list, q).unwrap_or(list.len()) as u8 + 1
 }
 
-/// Each of 1 to m stands in the list.
-fn has_all(list: &[u8], m: u8) -> bool
-    requires { (length list.now ≤ 8) × (m ≤ 8) }
-    ensures { result ≡ whole m list.now }
+/// Each of 1 to the list's length stands in it.
+fn has_all(list: &[u8]) -> bool
+    requires { length list.now ≤ 8 }
+    ensures { result ≡ whole (length list.now) list.now }
 {
+    let m = list.len() as u8;
     (0..m).all(|k| find(list, k + 1) <= m)
 }
 
-/// Place j holds one of 1 to m, for the first time.
-fn is_fresh(list: &[u8], m: u8, j: usize) -> bool
+/// Place j holds one of 1 to the list's length, for the first time.
+fn is_fresh(list: &[u8], j: usize) -> bool
     requires { (length list.now ≤ 8) × (j < length list.now) }
-    ensures { result ≡ fresh m list.now j }
+    ensures { result ≡ fresh (length list.now) list.now j }
 {
     let p = list[j];
-    1 <= p && p <= m && find(list, p) as usize == j + 1
+    1 <= p && p as usize <= list.len() && find(list, p) as usize == j + 1
 }
 
-fn all_fresh(list: &[u8], m: u8) -> bool
-    requires { (length list.now ≤ 8) × (m ≤ length list.now) }
-    ensures { result ≡ each (fresh m list.now) m }
+fn all_fresh(list: &[u8]) -> bool
+    requires { length list.now ≤ 8 }
+    ensures { result ≡ each (fresh (length list.now) list.now) (length list.now) }
 {
-    (0..m).all(|j| is_fresh(list, m, j as usize))
+    (0..list.len()).all(|j| is_fresh(list, j))
 }
 
 impl<'a> BitOrder<'a> {
-    /// The order of m bits that a list is, where it has each of 1 to m once, and nothing else.
-    pub fn new(list: &'a [u8], m: u8) -> Option<BitOrder<'a>>
-        requires { m ≤ 8 }
-        ensures { MatchOption result (permutes m list.now ≡ false) (λ order. (permutes m list.now ≡ true) × (order.list.now ≡ list.now)) }
+    /// The order that a list is, where it has each of 1 to its length once.
+    pub fn new(list: &'a [u8]) -> Option<BitOrder<'a>>
+        requires { length list.now ≤ 8 }
+        ensures { MatchOption result (permutes (length list.now) list.now ≡ false) (λ order. order.list.now ≡ list.now) }
     {
-        if list.len() == m as usize && has_all(list, m) && all_fresh(list, m) {
+        if has_all(list) && all_fresh(list) {
             Some(BitOrder { list })
         } else {
             None
         }
+    }
+
+    /// How many bits it orders.
+    pub fn m(&self) -> u8
+        ensures { result ≡ length self.now.list.now }
+    {
+        self.list.len() as u8
     }
 
     /// Where the bit of an old position stands now, counted from 1.
@@ -77,7 +85,7 @@ impl<'a> BitOrder<'a> {
     fn reorder(&self, label: u8) -> u8
         ensures { result ≡ reorder (length self.now.list.now) self.now.list.now label }
     {
-        let m = self.list.len() as u8;
+        let m = self.m();
         let mut r = 0;
         for p in self.list {
             r = r * 2 + bit_at(m, *p, label);

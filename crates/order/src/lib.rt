@@ -43,7 +43,7 @@ impl<C: Constellation> Order<C> {
     fn order(&self) -> Option<BitOrder<'_>>
         ensures { MatchOption result (permutes (C.Constellation.meaning self.now.below).m self.now.list.items ≡ false) (λ order. (permutes (C.Constellation.meaning self.now.below).m self.now.list.items ≡ true) × (order.list.now ≡ self.now.list.items)) }
     {
-        BitOrder::new(self.list.as_slice(), self.below.m())
+        BitOrder::new(self.list.as_slice()).filter(|order| order.m() == self.below.m())
     }
 
     /// Where the bit of a position below stands.

@@ -105,9 +105,6 @@ module _ (plan : Plan) (F : Fair plan.bits plan.copies) (M : Meaning) (L : Lawfu
   pub layered_size : length (layered plan M).points ≡ length M.points * length plan.copies
   layered_size = ap length layered_points ∙ length-spread plan.bits plan.copies F M L
 
-  pub layered_some : 1 ≤ length M.points * length plan.copies
-  layered_some = some_spread plan.bits plan.copies F M L
-
   module _ (i : ℕ) (within : i < length M.points * length plan.copies) where
     pub copy_within : i / length M.points < length plan.copies
     copy_within = div_below i (length M.points) (length plan.copies) L.some (omega (arith, mul_comm (length M.points) (length plan.copies)))

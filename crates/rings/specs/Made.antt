@@ -17,11 +17,11 @@ use Rattle.rings.specs.declared.rings.OnRings.{OnRings}
 abbrev pub numbered : (Count → List Copied) → ℕ → Option Plan
 numbered copies n = cond (n == 2) (Some (plan_of copies Two)) (cond (n == 4) (Some (plan_of copies Four)) None)
 
--- the plan for a number of rings
+-- the plan for a number of rings, by which `Rings::new` answers
 abbrev pub ring_plan : ℕ → Option Plan
 ring_plan = numbered ring_copies
 
--- the plan for a number of ratios
+-- the plan for a number of ratios, by which `Ratios::new` answers
 abbrev pub ratio_plan : ℕ → Option Plan
 ratio_plan = numbered ratio_copies
 
