@@ -59,7 +59,7 @@ impl Detector<'_> {
     }
 
     /// Writes the extrinsic values of one symbol, counted from 0.
-    pub(crate) fn row(&self, i: usize, out: &mut [i16])
+    pub fn row(&self, i: usize, out: &mut [i16])
         requires within { i < length self.now.table.now.records.items }
         requires room { length out.old ≡ self.now.chart.m }
         ensures { out.new ≡ extrinsics kept_value (seen self.now).meaning (seen self.now).shift (seen_at self.now i) }

@@ -44,7 +44,8 @@ impl Table {
         Ok(())
     }
 
-    /// Refused where this is not the turn that is out.
+    /// Refused where this is not the turn that is out. Its numbers are compared one by one: a turn made to compare with would
+    /// have to be spent too.
     pub(crate) fn check_turn(&self, turn: &Turn) -> Result<(), Refusal>
         ensures { result ≡ allow (ours (outlined 0 (view self.now)) turn.now.burst turn.now.number) NotOurs 0 accepted }
     {
