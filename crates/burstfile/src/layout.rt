@@ -1,4 +1,5 @@
 //! Cuts a file into its sections. In each section a file that ends inside it is refused before a field that breaks its rule.
+// A rule of the project: a section is taken as named first bytes and the rest by a slice pattern, so the two counts are read alike in place.
 
 ghost use Rattle.std.specs.Prelude.{◌≡◌, length, IfOk, Ok, Err, MatchResult};
 ghost use Rattle.burstfile.specs.Format.{Contents};

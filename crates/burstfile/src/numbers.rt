@@ -36,6 +36,9 @@ pub fn part(bytes: &[u8], k: usize, size: usize) -> &[u8]
     &bytes[k * size..][..size]
 }
 
+// A number and a pair by place stay two functions: one over both would take what reads a part, and be no plainer than its call.
+// Each asks that the part lies within the bytes, as an index asks it of a slice.
+
 /// The number at `k`, from 0.
 pub fn value_at(values: &[u8], k: usize) -> i16
     requires { k * 2 + 2 ≤ length values.now }

@@ -27,6 +27,7 @@ impl From<Refusal> for FileRefusal {
 }
 
 /// Adds the number of the record that a refusal is in. Records count from 1: 0 is outside them.
+// The number stays a number here: a caller who asks for an Option would lose the promise for 0.
 pub trait InRecord<T> {
     ghost says: { Self → ℕ → Result T FileRefusal → Type 0 };
 

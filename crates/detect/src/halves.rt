@@ -5,6 +5,7 @@ ghost use Rattle.detect.specs.Tops.{lowest, Held, Filled, Filled-prop};
 ghost use Rattle.detect.specs.Buckets.{over_codes, noted_by};
 
 /// Below every metric: what stands for no metric yet.
+// A rule of the project: bests are pairs of plain numbers, so that a low number stands for none.
 pub const LOWEST: i64 = -2305843009213693952;
 
 /// The best metric so far of each half label.

@@ -1,4 +1,4 @@
-//! The best at 1 and at 0 of a sign's position.
+//! The best at 1 and at 0 of a sign's position. A rule of the project: such a pair is two plain numbers, with no type of its own.
 
 ghost use Rattle.std.specs.Prelude.{◌≡◌};
 ghost use Rattle.detect.specs.Tops.{Held, Bounded, raised_by};

@@ -71,7 +71,7 @@ pub fn extrinsic_values(
         priors,
     };
     let tops = tops(&symbol);
-    // Not zipped with the a priori values: of what is written through a zip a proof knows nothing after the loop.
+    // A zip with the a priori values was tried: of what is written through it a proof knows nothing after the loop.
     for (index, value) in out.iter_mut().enumerate() {
         let (one, zero) = tops.pair_at(chart, index as u8);
         *value = valued(one, zero, shift, priors[index]);

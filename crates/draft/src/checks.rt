@@ -33,6 +33,7 @@ pub fn check_antennas(antennas: usize, beside: usize) -> Result<(), Refusal>
     Ok(())
 }
 
+// The library's test at this rule's bound; that of a priori values is another rule.
 fn fits(part: i16) -> bool
     ensures { result ≡ small part }
 {

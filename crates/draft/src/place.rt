@@ -15,6 +15,8 @@ use arrayvec::ArrayVec;
 use observation::{Record, Sample, Shift, observe};
 use refusal::Refusal;
 
+// The vectors and the weight are asked for apart, as the public calls have them from their callers: a type for the three would be
+// made in each call and taken apart in the next.
 impl Draft {
     /// No symbol, and no reference.
     pub fn new(number: u32, shift: Shift) -> Draft
@@ -44,6 +46,7 @@ impl Draft {
         requires sound { prefix_len fine y.now ≡ length y.now }
         ensures { view self.new ≡ referring (view self.old) y.now }
     {
+        // There is room for four, so this is always `Some`.
         self.reference = ArrayVec::try_from(y).ok();
     }
 

@@ -2,7 +2,8 @@
 
 #![tactic(auto)]
 
-// Each kind is made by its `new`. A `TryFrom<u32>` beside it would be no plainer: nothing converts numbers in general, and `Psk::new(8)` names the kind at the call.
+// Each kind is made by its `new`: a `TryFrom<u32>` would be no plainer, since the number is one of points and says so only here.
+// The two `new` and the tables of the two kinds are alike in form alone: one over both would take the table that tells them apart.
 pub mod psk;
 pub mod square;
 

@@ -8,11 +8,9 @@ ghost use Rattle.observation.specs.Observed.{Ranged, Measured, held, symbol_of};
 ghost use Rattle.observation.specs.Joining.{Summed, Room, Joined};
 
 mod antenna;
-
-use crate::antenna::Antenna;
-
 mod shift;
 
+use crate::antenna::Antenna;
 pub use crate::shift::Shift;
 
 /// A complex number as a receiver gives it, each part from -1023 to 1023.
@@ -70,6 +68,7 @@ fn joined(before: Record, antenna: Antenna) -> Record
 }
 
 /// The record of a symbol that was received as `y` over the reference `h`.
+// The vectors come apart, as the burst's public calls have them from their callers.
 pub fn observe(y: &[Sample], h: &[Sample], weight: u16) -> Record
     requires alike { length y.now ≡ length h.now }
     requires few { length y.now ≤ 4 }

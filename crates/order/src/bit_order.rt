@@ -13,6 +13,8 @@ pub struct BitOrder<'a> {
     ghost once: { permutes (length list.now) list.now ≡ true },
 }
 
+// The tests below run on a list that may be no order yet, so that its length is asked of each and in no type.
+
 /// The index at which q stands first.
 fn index_of(list: &[u8], q: u8) -> Option<usize>
     ensures { result ≡ index_where (λ p. p == q) list.now }

@@ -20,7 +20,7 @@ use catalogue::Catalogue;
 fn constellation_of(mode: Mode) -> Catalogue
     ensures { catalogue_meaning result ≡ offered (mode_meaning (mode_number mode)) }
 {
-    // The catalogue is asked by number, as any byte may be: there is one for each mode.
+    // By number, which the catalogue takes from anyone: a second way in by mode would be its ten lines again, and no plainer.
     let Some(c) = Catalogue::of_mode(mode.number()) else {
         unreachable();
     };

@@ -24,6 +24,9 @@ fn number_of(i: usize) -> u16
     1 + i as u16
 }
 
+// `row` of telling.rt gathers numbers as this does samples: one function over both would take what reads a chunk, with clauses on
+// what it gives, and be no plainer than three lines twice. The most bytes are asked of each, as no slice type bounds them.
+
 /// The pairs of a vector as samples.
 #[tactic(auto, using(crate::proofs::Filling::samples_more, crate::proofs::Filling::samples_end))]
 fn samples(pairs: &[u8]) -> ArrayVec<Sample, 4>

@@ -45,6 +45,7 @@ pub enum Cause {
 }
 
 /// A cause, and the place that it speaks of; 0 where it speaks of none.
+// A rule of the project: a refusal is printed as `7 at 0`, so that the 0 is a place like any other and no missing one.
 #[derive(Clone, Copy, PartialEq, Eq, Debug)]
 pub struct Refusal {
     pub cause: Cause,

@@ -12,6 +12,7 @@ pub enum Count {
 
 impl Count {
     /// 2 or 4, and no other number.
+    // No `TryFrom`: which refusal another number is is said where a layer is made.
     pub fn new(number: u32) -> Option<Count>
         ensures { result ≡ count_of number }
     {

@@ -9,9 +9,6 @@ mod layer;
 mod ratios;
 mod rings;
 
-pub use crate::copied::Copied;
-pub use crate::count::Count;
-pub use crate::kind::Kind;
 pub use crate::layer::Layer;
 pub use crate::ratios::{AtRatios, Ratios};
 pub use crate::rings::{OnRings, Rings};

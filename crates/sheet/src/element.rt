@@ -26,6 +26,20 @@ pub trait Element: Copy {
     /// The element that some bytes say.
     ghost decoded: { List ℕ → Self };
 
+    /// `BLANK`, for who asks by a call.
+    fn empty() -> Self
+        ensures { result ≡ BLANK }
+    {
+        Self::BLANK
+    }
+
+    /// `WIDTH`, for who asks by a call.
+    fn size() -> usize
+        ensures { result ≡ WIDTH }
+    {
+        Self::WIDTH
+    }
+
     /// Writes the bytes, which say the element again, into `out`, which has room for just them.
     fn put(self, out: &mut [u8]) -> Result<(), Refusal>
         ensures answer { result ≡ reply (length out.old) WIDTH }

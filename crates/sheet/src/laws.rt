@@ -7,6 +7,8 @@ ghost use Rattle.sheet.specs.Calls.{Same, Interleaved, Deinterleaved, held};
 use crate::table::Sheet;
 use refusal::Refusal;
 
+// Two laws and no twins: what each promises to leave as it was differs.
+
 /// Interleaves the table into `out` and deinterleaves it again: the table stays as it was.
 pub fn there_and_back<T: Copy>(sheet: &mut Sheet<T>, out: &mut [T]) -> Result<(), Refusal>
     ensures table { held sheet.new ≡ held sheet.old }

@@ -11,7 +11,7 @@ pub(crate) fn turn<T: Copy>(rows: usize, columns: usize, from: &[T], into: &mut 
     ensures told { into.new ≡ interleaved rows columns from.now }
     ensures back { deinterleaved rows columns into.new ≡ from.now }
 {
-    // `chunks_exact_mut` would cut the columns, but a proof knows nothing of elements that are written through it.
+    // `chunks_exact_mut` was tried: it cuts the columns, but a proof knows nothing of elements that are written through it.
     for c in 0..columns {
         let column = &mut into[c * rows..(c + 1) * rows];
         for (r, cell) in column.iter_mut().enumerate() {

@@ -14,7 +14,7 @@ pub(crate) fn bytes<T: Element>(cells: &[T], out: &mut [u8]) -> Result<(), Refus
     ensures told { out.new ≡ flat_map T.coded cells.now }
     ensures back { read_back T.WIDTH T.decoded (length cells.now) out.new ≡ cells.now }
 {
-    // `chunks_exact_mut` would cut the rooms, but a proof knows nothing of bytes that are written through it, and `WIDTH` may be 0.
+    // `chunks_exact_mut` was tried: a proof knows nothing of bytes that are written through it, and `WIDTH` may be 0.
     for (i, cell) in cells.iter().enumerate() {
         let at = i * T::WIDTH;
         cell.put(&mut out[at..at + T::WIDTH])?;

@@ -34,6 +34,7 @@ impl<'a> Detector<'a> {
     }
 }
 
+// A symbol is named by its index, which each method asks to be within: a type for it would have to hold the table once more.
 impl Detector<'_> {
     ghost use Rattle.soft.specs.Seen.{seen, seen_at};
 

@@ -7,18 +7,25 @@ ghost use Rattle.soft.specs.Seen.{seen, seen_at};
 
 use crate::detector::Detector;
 
+/// The posterior value.
+fn posterior(a: i16, e: i16) -> i32
+    ensures { result ≡ a +ℤ e }
+{
+    i32::from(a) + i32::from(e)
+}
+
 /// An a priori and an extrinsic value, and their sum.
 fn with_posterior(a: i16, e: i16) -> (i16, i16, i32)
     ensures { result ≡ (a, e, a +ℤ e) }
 {
-    (a, e, i32::from(a) + i32::from(e))
+    (a, e, posterior(a, e))
 }
 
 /// 1 where the posterior value is above 0, else 0.
 fn decision(a: i16, e: i16) -> u8
     ensures { result ≡ (if int_lt (pos 0) (a +ℤ e) then 1 else 0) }
 {
-    u8::from(i32::from(a) + i32::from(e) > 0)
+    u8::from(posterior(a, e) > 0)
 }
 
 impl Detector<'_> {

@@ -2,8 +2,8 @@
 //!
 //! The two loops are alike but for what writes a row. One function over both would take that as a closure, with clauses on what
 //! each call asks and leaves, and be no plainer than two lines twice.
-//! Each row is lent by its range: with `chunks_exact_mut` the sheet's contents stay open, since of what such chunks were written
-//! a proof knows the length alone.
+//! Each row is lent by its range: `chunks_exact_mut` was tried, and the sheet's contents stayed open, since of what such chunks were
+//! written a proof knows the length alone.
 
 ghost use Rattle.std.specs.Prelude.{◌≡◌, ◌*◌, length};
 ghost use Rattle.protocol.specs.Calls.{sheet_of, bits_of};

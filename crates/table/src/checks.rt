@@ -12,6 +12,7 @@ use crate::turn::Turn;
 use refusal::{Cause, Refusal};
 
 /// Refused where there are not as many values as are needed.
+// Crate sheet has the same test: the crate below both knows causes and places, and a function there would be no shorter than this.
 pub fn check_length(length: usize, needed: usize) -> Result<(), Refusal>
     ensures reply { result ≡ allow (length == needed) Length needed accepted }
     ensures same { OnOk result (length ≡ needed) }

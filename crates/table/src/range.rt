@@ -10,6 +10,7 @@ use refusal::{Cause, Refusal};
 /// The largest a priori value; the smallest is its negative.
 const MOST: i16 = 8191;
 
+// The library's test at this rule's bound; that of samples is another rule.
 fn sound(value: i16) -> bool
     ensures { result ≡ inside value }
 {

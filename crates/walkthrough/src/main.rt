@@ -1,4 +1,5 @@
 //! Plays two bursts through their public calls and prints each call with its reply.
+// The handle and the bursts are passed apart: each function takes just those that it speaks of.
 
 #![tactic(auto)]
 
