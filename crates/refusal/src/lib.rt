@@ -5,6 +5,9 @@
 ghost use Rattle.std.specs.Prelude.{◌≡◌, Some};
 ghost use Rattle.refusal.specs.Numbers.{number_of, refusal_text};
 
+mod length;
+
+pub use crate::length::check_length;
 use std::fmt;
 
 /// What was wrong. The number of a cause is what a refusal prints.

@@ -6,8 +6,8 @@ ghost use Rattle.rings.specs.Copies.{count_of, rings_in, bits};
 /// A number of rings, on them or at their ratios.
 #[derive(Clone, Copy)]
 pub enum Count {
-    Two,
-    Four,
+    Two = 2,
+    Four = 4,
 }
 
 impl Count {
@@ -27,10 +27,7 @@ impl Count {
     pub fn number(self) -> u8
         ensures { result ≡ rings_in self }
     {
-        match self {
-            Count::Two => 2,
-            Count::Four => 4,
-        }
+        self as u8
     }
 
     /// The bits that so many codes take.

@@ -4,11 +4,10 @@ ghost use Rattle.sheet.specs.Calls.{Same, Interleaved, Deinterleaved, Wiped, Pag
 
 use crate::blank::blanks;
 use crate::element::Element;
-use crate::length::exactly;
 use crate::order::turn;
 use crate::paper::bytes;
 use crate::table::Sheet;
-use refusal::Refusal;
+use refusal::{Refusal, check_length};
 
 impl<'a, T: Copy> Sheet<'a, T> {
     /// Deals the table into `out`, column after column: a block interleaver.
@@ -16,7 +15,7 @@ impl<'a, T: Copy> Sheet<'a, T> {
         ensures { Interleaved self.now out.old result out.new }
     {
         self.fit()?;
-        exactly(out.len(), self.cells.len())?;
+        check_length(out.len(), self.cells.len())?;
         turn(self.rows, self.columns, self.cells, out);
         Ok(())
     }
@@ -27,7 +26,7 @@ impl<'a, T: Copy> Sheet<'a, T> {
         ensures same { Same self.old self.new }
     {
         self.fit()?;
-        exactly(from.len(), self.cells.len())?;
+        check_length(from.len(), self.cells.len())?;
         turn(self.columns, self.rows, from, self.cells);
         Ok(())
     }
@@ -49,7 +48,7 @@ impl<'a, T: Element> Sheet<'a, T> {
         ensures { Paged T.WIDTH T.coded T.decoded self.now out.old result out.new }
     {
         self.fit()?;
-        exactly(out.len(), self.cells.len() * T::WIDTH)?;
+        check_length(out.len(), self.cells.len() * T::WIDTH)?;
         bytes(self.cells, out)
     }
 }

@@ -5,8 +5,7 @@ ghost use Rattle.sheet.specs.Bytes.{word16, bytes16, signed16, number16};
 ghost use Rattle.sheet.specs.Calls.{reply, after};
 ghost use Rattle.std.proofs.Common.{rules};
 
-use crate::length::exactly;
-use refusal::Refusal;
+use refusal::{Refusal, check_length};
 
 /// An element with a blank and with bytes.
 pub trait Element: Copy {
@@ -70,7 +69,7 @@ impl Element for u8 {
     ghost narrow = { Prim.search rules };
 
     fn put(self, out: &mut [u8]) -> Result<(), Refusal> {
-        exactly(out.len(), Self::WIDTH)?;
+        check_length(out.len(), Self::WIDTH)?;
         out.copy_from_slice(&[self]);
         Ok(())
     }
@@ -95,7 +94,7 @@ impl Element for i16 {
     ghost narrow = { Prim.search rules };
 
     fn put(self, out: &mut [u8]) -> Result<(), Refusal> {
-        exactly(out.len(), Self::WIDTH)?;
+        check_length(out.len(), Self::WIDTH)?;
         out.copy_from_slice(&self.to_be_bytes());
         Ok(())
     }

@@ -1,8 +1,8 @@
 //! What the calls of a table are refused for.
 
-ghost use Rattle.std.specs.Prelude.{◌≡◌, ◌≤◌, not, OnOk, ◌==◌};
+ghost use Rattle.std.specs.Prelude.{◌≡◌, ◌≤◌, not, OnOk};
 ghost use Rattle.arrayvec.specs.ArrayVec.{array_vec_len};
-ghost use Rattle.refusal.specs.declared.Cause.TheVariants.{Symbol as NoSymbol, Length, Out, Foreign as NotOurs};
+ghost use Rattle.refusal.specs.declared.Cause.TheVariants.{Symbol as NoSymbol, Out, Foreign as NotOurs};
 ghost use Rattle.protocol.specs.Verdicts.{need as allow, accepted, up_to};
 ghost use Rattle.protocol.specs.Calls.{ours};
 ghost use Rattle.table.specs.Kept.{outlined, view};
@@ -10,18 +10,6 @@ ghost use Rattle.table.specs.Kept.{outlined, view};
 use crate::table::Table;
 use crate::turn::Turn;
 use refusal::{Cause, Refusal};
-
-/// Refused where there are not as many values as are needed.
-// Crate sheet has the same test: the crate below both knows causes and places, and a function there would be no shorter than this.
-pub fn check_length(length: usize, needed: usize) -> Result<(), Refusal>
-    ensures reply { result ≡ allow (length == needed) Length needed accepted }
-    ensures same { OnOk result (length ≡ needed) }
-{
-    if length != needed {
-        return Err(Cause::Length.at(needed));
-    }
-    Ok(())
-}
 
 impl Table {
     /// Refused where there is no such symbol, counted from 1.

@@ -9,13 +9,12 @@ ghost use Rattle.table.specs.Kept.{over, view, fresh, outlined, tell_left, answe
 ghost use Rattle.std.specs.List.{prefix_len};
 ghost use Rattle.observation.specs.Sizes.{measured as fits};
 
-use crate::checks::check_length;
 use crate::range::in_range;
 use crate::table::Table;
 use crate::turn::Turn;
 use arrayvec::ArrayVec;
 use observation::{Record, Shift};
-use refusal::{Cause, Refusal};
+use refusal::{Cause, Refusal, check_length};
 
 /// Writes the values over the priors from `at` on.
 #[tactic(auto, using(crate::proofs::Fronts::put_inside))]
