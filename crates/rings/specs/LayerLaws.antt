@@ -105,6 +105,9 @@ module _ (plan : Plan) (F : Fair plan.bits plan.copies) (M : Meaning) (L : Lawfu
   pub layered_size : length (layered plan M).points ≡ length M.points * length plan.copies
   layered_size = ap length layered_points ∙ length-spread plan.bits plan.copies F M L
 
+  pub layered_some : 1 ≤ length M.points * length plan.copies
+  layered_some = some_spread plan.bits plan.copies F M L
+
   module _ (i : ℕ) (within : i < length M.points * length plan.copies) where
     pub copy_within : i / length M.points < length plan.copies
     copy_within = div_below i (length M.points) (length plan.copies) L.some (omega (arith, mul_comm (length M.points) (length plan.copies)))
@@ -127,3 +130,9 @@ module _ (plan : Plan) (F : Fair plan.bits plan.copies) (M : Meaning) (L : Lawfu
         ∙ ap (λ z. get_or all z origin) (sym (div-add-mod' i size))
         ∙ get_or-spread plan.bits plan.copies F M L (i / size) (i % size) copy_within low
         ∙ ap (copied plan.bits (get_or plan.copies (i / size) nothing)) (sym (nth-under M.points (i % size) low))
+
+    pub layered-nth : (number : ℕ) → place number (length M.points * length plan.copies) ≡ i → nth (layered plan M).points number ≡ copied_at plan M.points i
+    layered-nth number e =
+        ap (λ n. get_or (layered plan M).points (place number n) origin) layered_size
+        ∙ ap (λ k. get_or (layered plan M).points k origin) e
+        ∙ layered_at
