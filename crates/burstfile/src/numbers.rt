@@ -8,6 +8,7 @@ ghost use Rattle.burstfile.specs.Values.{priors_fault, InsideTo, FirstOutside, i
 use refusal::{Cause, Refusal};
 
 /// The largest size of an a priori value.
+// Crate table has the same bound, over numbers that it is told; here it is tested over a file's bytes, before a burst is there.
 const LARGEST: u16 = 8191;
 
 /// The number that the bytes begin with.
@@ -37,7 +38,7 @@ pub fn part(bytes: &[u8], k: usize, size: usize) -> &[u8]
 }
 
 // A number and a pair by place stay two functions: one over both would take what reads a part, and be no plainer than its call.
-// Each asks that the part lies within the bytes, as an index asks it of a slice.
+// Each, as `value`, `pair` and `part`, asks that what it reads lies within the bytes, as an index asks it of a slice.
 
 /// The number at `k`, from 0.
 pub fn value_at(values: &[u8], k: usize) -> i16

@@ -27,7 +27,7 @@ impl From<Refusal> for FileRefusal {
 }
 
 /// Adds the number of the record that a refusal is in. Records count from 1: 0 is outside them.
-// The number stays a number here: a caller who asks for an Option would lose the promise for 0.
+// The number stays a number here, which it is in every call but one for 0: an Option would be made only to be taken apart.
 pub trait InRecord<T> {
     ghost says: { Self → ℕ → Result T FileRefusal → Type 0 };
 

@@ -11,8 +11,8 @@ pub struct Settings {
 }
 
 /// A file whose sections stand: how many records it has, their bytes, and those of the a priori values.
-// `count` is no length of `records`: it is what the section says, and the bytes of a record depend on the settings.
-// That the sections are whole is asked of each function that needs it, since anyone may fill these fields.
+// `count` is what the section says: it is no length of `records`, which holds bytes, and would be a division at each use.
+// That the sections are whole is asked by the three functions that need it: a ghost field would spell the layout out once more.
 #[derive(Clone, Copy)]
 pub struct File<'a> {
     pub settings: Settings,

@@ -21,7 +21,7 @@ pub enum Catalogue {
 
 impl Catalogue {
     /// The constellation of a mode, 1 to 10.
-    // A byte, as this is the way in from one: `None` says that it is no mode, and a type of modes would refuse it a step before.
+    // A byte, as this is the public way in from one; a type of modes, which the file's crate has, would be no plainer here.
     pub fn of_mode(mode: u8) -> Option<Catalogue>
         ensures { Offered (mode_meaning mode) result }
     {

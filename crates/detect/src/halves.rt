@@ -5,10 +5,11 @@ ghost use Rattle.detect.specs.Tops.{lowest, Held, Filled, Filled-prop};
 ghost use Rattle.detect.specs.Buckets.{over_codes, noted_by};
 
 /// Below every metric: what stands for no metric yet.
-// A rule of the project: bests are pairs of plain numbers, so that a low number stands for none.
+// A rule of the project: bests are plain numbers, so that a low number stands for none, in the buckets as in the pairs.
 pub const LOWEST: i64 = -2305843009213693952;
 
 /// The best metric so far of each half label.
+// A bucket for each of the 16 half labels, whatever m is: nothing is allocated, and a half label finds its bucket by itself.
 #[derive(Clone, Copy)]
 pub struct Halves {
     pub best: [i64; 16],

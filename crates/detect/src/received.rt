@@ -24,6 +24,9 @@ pub struct Received<'a> {
     pub ghost given: { Given shift.exponent priors.now chart.now.m chart.now.u chart.now.v } by { Given-prop },
 }
 
+// The range of an a priori value is asked where one is computed with: sheets are lent slices of plain numbers (a rule of the
+// project), and a type of bounded numbers would be made of each for one call.
+
 /// An a priori value, where its bit is 1.
 fn counted(bit: u8, prior: i16) -> i64
     requires { unsigned_abs prior ≤ 8191 }
@@ -40,6 +43,7 @@ impl Received<'_> {
         ensures small { unsigned_abs result ≤ 65528 }
     {
         let mut sum: i64 = 0;
+        // With its index: a position counts from 1, and the bit is asked by it.
         for (index, prior) in self.priors.iter().enumerate() {
             sum += counted(bit_at(self.chart.m, index as u8 + 1, label), *prior);
         }

@@ -12,6 +12,8 @@ use observation::{Record, Sample, Shift};
 
 /// The placed symbols, and the received vector that the next differential symbol refers to, once there is one.
 /// An array vector keeps its bound to itself, so `few` says it to the proofs.
+// A closed burst's table takes the records, the number and the shift over: a struct of the three, which both would hold, would be
+// one more name in every clause on them.
 #[derive(Drop)]
 pub struct Draft {
     pub records: ArrayVec<Record, 128>,

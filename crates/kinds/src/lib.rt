@@ -2,7 +2,7 @@
 
 #![tactic(auto)]
 
-// Each kind is made by its `new`: a `TryFrom<u32>` would be no plainer, since the number is one of points and says so only here.
+// Each kind is made by its `new`, which is public and stays: a `TryFrom<u32>` beside it would say the same once more.
 // The two `new` and the tables of the two kinds are alike in form alone: one over both would take the table that tells them apart.
 pub mod psk;
 pub mod square;

@@ -13,7 +13,8 @@ pub struct BitOrder<'a> {
     ghost once: { permutes (length list.now) list.now ≡ true },
 }
 
-// The tests below run on a list that may be no order yet, so that its length is asked of each and in no type.
+// The tests below run on a list that may be no order yet. Its length is asked of each, since an array vector, which would say it,
+// hides its bound from proofs. They go by number and by place, as what makes a list an order is said by those.
 
 /// The index at which q stands first.
 fn index_of(list: &[u8], q: u8) -> Option<usize>

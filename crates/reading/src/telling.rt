@@ -38,6 +38,9 @@ fn tell_symbol(burst: &mut Burst<Catalogue>, i: usize, priors: &[u8]) -> Result<
     burst.tell(i + 1, &row(priors))
 }
 
+// That a burst has at most 128 symbols of at most 8 bits each is asked here and told by what makes one: a ghost field of `Burst`
+// would name its constellation's meaning wherever the type stands.
+
 /// Tells every symbol its m values; where the file has none, all stay as they are. None is refused.
 #[tactic(auto, using(crate::proofs::Spreading::told_start, crate::proofs::Chunks::chunks_start))]
 pub fn tell_all(burst: &mut Burst<Catalogue>, priors: &[u8]) -> Result<(), Refusal>

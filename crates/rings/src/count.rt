@@ -12,7 +12,7 @@ pub enum Count {
 
 impl Count {
     /// 2 or 4, and no other number.
-    // No `TryFrom`: which refusal another number is is said where a layer is made.
+    // An Option and no `TryFrom`: a layer's `new` makes the refusal, and an error type in between would be no plainer.
     pub fn new(number: u32) -> Option<Count>
         ensures { result ≡ count_of number }
     {

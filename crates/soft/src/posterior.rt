@@ -7,6 +7,8 @@ ghost use Rattle.soft.specs.Seen.{seen, seen_at};
 
 use crate::detector::Detector;
 
+// An a priori and an extrinsic value are plain numbers here as for who reads them (a rule of the project), with no type for both.
+
 /// The posterior value.
 fn posterior(a: i16, e: i16) -> i32
     ensures { result ≡ a +ℤ e }

@@ -1,5 +1,5 @@
 //! Plays two bursts through their public calls and prints each call with its reply.
-// The handle and the bursts are passed apart: each function takes just those that it speaks of.
+// The handle and the bursts are passed apart: a struct of them would be lent whole where a function speaks of one burst alone.
 
 #![tactic(auto)]
 
