@@ -64,11 +64,11 @@ module _ (M : Meaning) (t : Table) where
       }
 
   -- what each call of the table leaves is what the call of the burst leaves
-  withdrawn_left : (b n : ℕ) (r : Verdict) → kept M (withdraw_left r (view t)) ≡ leaves erased_record r (closed_kept M t) (withdraw b n)
+  pub withdrawn_left : (b n : ℕ) (r : Verdict) → kept M (withdraw_left r (view t)) ≡ leaves erased_record r (closed_kept M t) (withdraw b n)
   withdrawn_left b n (Err e) = refl
   withdrawn_left b n (Ok a) = refl
 
-  erased_left : (i : ℕ) (r : Verdict) → r ≡ verdict (outlined M.m (view t)) (erase i) → kept M (erase_left r (view t) i) ≡ leaves erased_record r (closed_kept M t) (erase i)
+  pub erased_left : (i : ℕ) (r : Verdict) → r ≡ verdict (outlined M.m (view t)) (erase i) → kept M (erase_left r (view t) i) ≡ leaves erased_record r (closed_kept M t) (erase i)
   erased_left i (Err e) h = refl
   erased_left i (Ok a) h =
       let p = passed (up_to (length t.records.items) i) _ _ _ h in
@@ -78,7 +78,7 @@ module _ (M : Meaning) (t : Table) where
       ap (λ ys. record { meaning = M; number = t.number; shift = t.shift.exponent; symbols = ys; given = t.given; out = t.out })
       (paired-set M.m erased_record t.records.items (i - 1) t.priors (omega arith))
 
-  told_left : M.m ≤ 8 → (i : ℕ) (zs : List ℤ) (r : Verdict) → r ≡ verdict (outlined M.m (view t)) (tell i zs) → kept M (tell_left r M.m (view t) i zs) ≡ leaves erased_record r (closed_kept M t) (tell i zs)
+  pub told_left : M.m ≤ 8 → (i : ℕ) (zs : List ℤ) (r : Verdict) → r ≡ verdict (outlined M.m (view t)) (tell i zs) → kept M (tell_left r M.m (view t) i zs) ≡ leaves erased_record r (closed_kept M t) (tell i zs)
   told_left small i zs (Err e) h = refl
   told_left small i zs (Ok a) h =
       let p = passed (up_to (length t.records.items) i) _ _ _ h in
@@ -90,7 +90,7 @@ module _ (M : Meaning) (t : Table) where
       ap (λ ys. record { meaning = M; number = t.number; shift = t.shift.exponent; symbols = ys; given = t.given; out = t.out })
       (paired-told M.m t.records.items (i - 1) zs t.priors (eqb-true _ _ l.0) (omega arith) (omega (arith, table_room _ M.m t.few small, t.wide)))
 
-  answered_left : (b n : ℕ) (zs : List ℤ) (r : Verdict) → r ≡ verdict (outlined M.m (view t)) (answer b n zs) → kept M (answer_left r (view t) zs) ≡ leaves erased_record r (closed_kept M t) (answer b n zs)
+  pub answered_left : (b n : ℕ) (zs : List ℤ) (r : Verdict) → r ≡ verdict (outlined M.m (view t)) (answer b n zs) → kept M (answer_left r (view t) zs) ≡ leaves erased_record r (closed_kept M t) (answer b n zs)
   answered_left b n zs (Err e) h = refl
   answered_left b n zs (Ok a) h =
       let p = passed _ _ _ _ h in

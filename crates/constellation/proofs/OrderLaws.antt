@@ -6,7 +6,7 @@ use Rattle.std.proofs.ByRecursion.{All-map, All-weaker}
 use Rattle.std.proofs.lemmas.List.{length-map, get_or-map}
 use Rattle.std.proofs.lemmas.Bool.{cond_both, cond-true, and_parts, leb-true, eqb-true}
 use Rattle.constellation.specs.Meaning.{Meaning, Lawful, Good, Carried, bit, origin, place, nth}
-use Rattle.constellation.specs.Ordered.{reorder, position, fresh, permutes, relabel, shuffled, ordered}
+use Rattle.constellation.specs.Ordered.{reorder, position, fresh, permutes, relabel, shuffled, arranged, ordered}
 use Rattle.constellation.specs.declared.Point.{Point}
 use Rattle.constellation.proofs.Reorder.{bit-reorder, reorder-small, same_bits, position_least, at_position}
 use Rattle.constellation.proofs.Tested.{every_from}
@@ -112,25 +112,31 @@ module _ (M : Meaning) (L : Lawful M) (ps : List ℕ) (O : Order M.m ps) where
     carried = carried_shuffled;
   }
 
-pub ordered_lawful : (list : List ℕ) (M : Meaning) → Lawful M → Lawful (ordered list M)
-ordered_lawful list M L =
-    cond_both (permutes M.m (take M.m list)) (shuffled (take M.m list) M) M Lawful
-    (λ t. shuffled_lawful M L (take M.m list) (order_from M.m (take M.m list) t))
-    (λ _. L)
+pub arranged_lawful : (ps : List ℕ) (M : Meaning) → Lawful M → Lawful (arranged ps M)
+arranged_lawful ps M L =
+    cond_both (permutes M.m ps) (shuffled ps M) M Lawful (λ t. shuffled_lawful M L ps (order_from M.m ps t)) (λ _. L)
 
-pub ordered-size : (list : List ℕ) (M : Meaning) → length (ordered list M).points ≡ length M.points
-ordered-size list M =
-    cond_both (permutes M.m (take M.m list)) (shuffled (take M.m list) M) M (λ N. length N.points ≡ length M.points)
+pub arranged-size : (ps : List ℕ) (M : Meaning) → length (arranged ps M).points ≡ length M.points
+arranged-size ps M =
+    cond_both (permutes M.m ps) (shuffled ps M) M (λ N. length N.points ≡ length M.points)
     (λ _. length-map M.points _)
     (λ _. refl)
 
-pub ordered_at : (list ps : List ℕ) (M : Meaning) → Lawful M → ps ≡ take M.m list → permutes M.m ps ≡ true → (n : ℕ) → nth (ordered list M).points n ≡ relabel M.m ps (nth M.points n)
-ordered_at list ps M L e t n =
+pub arranged_at : (ps : List ℕ) (M : Meaning) → Lawful M → permutes M.m ps ≡ true → (n : ℕ) → nth (arranged ps M).points n ≡ relabel M.m ps (nth M.points n)
+arranged_at ps M L t n =
     let old : List Point = M.points in
     let new : List Point = map (relabel M.m ps) old in
-    let is : ordered list M ≡ shuffled ps M =
-    ap (λ z. cond (permutes M.m z) (shuffled z M) M) (sym e) ∙ cond-true _ _ _ t in
+    let is : arranged ps M ≡ shuffled ps M = cond-true _ _ _ t in
     let i : place n (length old) < length old = omega (arith, L.some) in
     ap (λ N. nth N.points n) is
     ∙ ap (λ z. get_or new (place n z) origin) (length-map old _)
     ∙ get_or-map (relabel M.m ps) old (place n (length old)) origin origin i
+
+pub ordered_lawful : (list : List ℕ) (M : Meaning) → Lawful M → Lawful (ordered list M)
+ordered_lawful list M = arranged_lawful (take M.m list) M
+
+pub ordered-size : (list : List ℕ) (M : Meaning) → length (ordered list M).points ≡ length M.points
+ordered-size list M = arranged-size (take M.m list) M
+
+pub ordered_at : (list ps : List ℕ) (M : Meaning) → Lawful M → ps ≡ take M.m list → permutes M.m ps ≡ true → (n : ℕ) → nth (ordered list M).points n ≡ relabel M.m ps (nth M.points n)
+ordered_at list ps M L e t n = ap (λ z. nth (arranged z M).points n) (sym e) ∙ arranged_at ps M L t n

@@ -35,5 +35,10 @@ relabel m ps p = record { x = p.x; y = p.y; e = p.e; label = reorder m ps p.labe
 abbrev pub shuffled : List ℕ → Meaning → Meaning
 shuffled ps M = record { m = M.m; u = position M.u ps; v = position M.v ps; points = map (relabel M.m ps) M.points }
 
+-- over any meaning: where the list is no order of its bits, the one below
+abbrev pub arranged : List ℕ → Meaning → Meaning
+arranged ps M = cond (permutes M.m ps) (shuffled ps M) M
+
+-- the same by a list of which only the front of m entries counts
 abbrev pub ordered : List ℕ → Meaning → Meaning
-ordered list M = cond (permutes M.m (take M.m list)) (shuffled (take M.m list) M) M
+ordered list M = arranged (take M.m list) M

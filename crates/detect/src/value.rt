@@ -11,8 +11,9 @@ ghost use Rattle.detect.specs.Charts.{chart_meaning};
 ghost use Rattle.detect.specs.Kept.{kept_value};
 
 use crate::chart::Chart;
-use crate::pass::tops;
+use crate::pass::gather;
 use crate::received::Received;
+use crate::tops::Tops;
 use observation::{Record, Shift};
 
 /// A difference of doubled metrics, less the bit's own part.
@@ -70,7 +71,8 @@ pub fn extrinsic_values(
         shift,
         priors,
     };
-    let tops = tops(&symbol);
+    let mut tops = Tops::none();
+    gather(&symbol, &mut tops);
     // A zip with the a priori values was tried: of what is written through it a proof knows nothing after the loop.
     for (index, value) in out.iter_mut().enumerate() {
         let (one, zero) = tops.pair_at(chart, index as u8);

@@ -25,8 +25,12 @@ fine_is s h =
 pub all_fine : (v : List Sample) → position (λ s. not (fine s)) v ≡ None → prefix_len fine v ≡ length v
 all_fine v h = grind (arith, prefix_len-le-length)
 
+-- where all pass it, all are within their ranges
+pub fine_ranged : (v : List Sample) → prefix_len fine v ≡ length v → AllByRecursion Ranged v
+fine_ranged v h = front_all fine Ranged fine_is v h
+
 pub all_ranged : (v : List Sample) → position (λ s. not (fine s)) v ≡ None → AllByRecursion Ranged v
-all_ranged v h = front_all fine Ranged fine_is v (all_fine v h)
+all_ranged v h = fine_ranged v (all_fine v h)
 
 -- one record more
 pub measured_more : (rs : List Record) (r : Record) → prefix_len measured rs ≡ length rs → Measured r → prefix_len measured (rs ++ (r ∷ [])) ≡ length (rs ++ (r ∷ []))

@@ -11,7 +11,7 @@ use arrayvec::ArrayVec;
 use observation::{Record, Sample, Shift};
 
 /// The placed symbols, and the received vector that the next differential symbol refers to, once there is one.
-/// An array vector keeps its bound to itself, so `few` says it to the proofs.
+/// An array vector keeps its bound to itself, so `few` and `held` say it to the proofs.
 // A closed burst's table takes the records, the number and the shift over: a struct of the three, which both would hold, would be
 // one more name in every clause on them.
 #[derive(Drop)]
@@ -23,4 +23,5 @@ pub struct Draft {
     ghost few: { array_vec_len records ≤ 128 },
     ghost sized: { prefix_len measured records.items ≡ array_vec_len records },
     ghost tuned: { ForSome reference (λ y. prefix_len fine y.items ≡ array_vec_len y) },
+    ghost held: { ForSome reference (λ y. (1 ≤ array_vec_len y) × (array_vec_len y ≤ 4)) },
 }

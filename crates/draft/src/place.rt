@@ -42,6 +42,7 @@ impl Draft {
 
     /// Keeps the vector as the reference.
     fn keep(&mut self, y: &[Sample])
+        requires some { 1 ≤ length y.now }
         requires four { length y.now ≤ 4 }
         requires sound { prefix_len fine y.now ≡ length y.now }
         ensures { view self.new ≡ referring (view self.old) y.now }

@@ -1,3 +1,2 @@
 pub mod OrderMade
-pub mod OrderLaws
 pub mod Once

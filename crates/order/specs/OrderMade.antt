@@ -1,14 +1,10 @@
 -- What the making of a bit order answers.
-use Rattle.std.specs.Prelude.{◌≡◌, ℕ, true, false, cond, List, Ok, Err, Result}
+use Rattle.std.specs.Prelude.{◌≡◌, ℕ, true, false, List, Ok, Err, Result}
 use Rattle.refusal.specs.declared.Cause.TheVariants.{Order as Unordered}
 use Rattle.refusal.specs.declared.Refusal.{Refusal}
 use Rattle.constellation.specs.Meaning.{Meaning}
-use Rattle.constellation.specs.Ordered.{permutes, shuffled}
+use Rattle.constellation.specs.Ordered.{permutes, shuffled, arranged}
 use Rattle.order.specs.declared.Order.{Order}
-
--- over any meaning: where the list is no order of its bits, the one below
-abbrev pub arranged : List ℕ → Meaning → Meaning
-arranged ps M = cond (permutes M.m ps) (shuffled ps M) M
 
 -- what a bit order means, over what is below
 abbrev pub order_meaning : {C : Type 0} → (C → Meaning) → Order C → Meaning

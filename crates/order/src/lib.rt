@@ -5,10 +5,10 @@
 mod bit_order;
 
 ghost use Rattle.std.specs.Prelude.{◌≡◌, true, false, cond, MatchOption};
+ghost use Rattle.constellation.proofs.OrderLaws.{arranged_lawful};
 ghost use Rattle.constellation.proofs.Points.{good_nth};
 ghost use Rattle.constellation.specs.Ordered.{position, permutes};
 ghost use Rattle.order.specs.Once.{TestStands};
-ghost use Rattle.order.specs.OrderLaws.{arranged_lawful};
 ghost use Rattle.order.specs.OrderMade.{Ordering, order_meaning};
 
 use crate::bit_order::BitOrder;

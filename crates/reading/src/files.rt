@@ -28,6 +28,8 @@ fn constellation_of(mode: Mode) -> Catalogue
 }
 
 /// The burst of a file whose sections stand.
+// Not inlined: in its caller's frame there would be a place more for a burst, which each call clears.
+#[inline(never)]
 fn burst_of(file: File<'_>, number: u32) -> Result<Burst<Catalogue>, FileRefusal>
     requires whole { Whole (laid file) }
     requires shape { Shape (contents_of (laid file)) }

@@ -1,13 +1,13 @@
 //! Places the records of a file, one after another.
 
-ghost use Rattle.std.specs.Prelude.{◌≡◌, ◌+◌, ◌<◌, ◌≤◌, length, Some, MatchResult};
+ghost use Rattle.std.specs.Prelude.{◌≡◌, ◌+◌, ◌<◌, ◌≤◌, length, Some, MatchResult, slice_index};
 ghost use Rattle.catalogue.specs.Modes.{catalogue_meaning};
 ghost use Rattle.burst.specs.Public.{open_kept, PlacedBy};
 ghost use Rattle.burstfile.specs.Modes.{mode_number};
 ghost use Rattle.burstfile.specs.Format.{Shape};
-ghost use Rattle.burstfile.specs.Reading.{Whole, laid, contents_of, pairs_of, shown};
+ghost use Rattle.burstfile.specs.Reading.{Whole, laid, contents_of, signed_of, pair_of, pairs_of, shown};
 ghost use Rattle.burstfile.specs.Values.{values_fault};
-ghost use Rattle.reading.specs.Held.{samples_of, placing_of, Filled};
+ghost use Rattle.reading.specs.Held.{sample_of, samples_of, placing_of, Filled};
 
 use arrayvec::ArrayVec;
 use burst::OpenBurst;
@@ -24,6 +24,14 @@ fn number_of(i: usize) -> u16
     1 + i as u16
 }
 
+/// The sample that the bytes of a pair say.
+fn sample(bytes: &[u8]) -> Sample
+    requires { 4 ≤ length bytes.now }
+    ensures { result ≡ sample_of (pair_of (signed_of (slice_index bytes.now 0) (slice_index bytes.now 1)) (signed_of (slice_index bytes.now 2) (slice_index bytes.now 3))) }
+{
+    Sample::from(pair(bytes))
+}
+
 // `row` of telling.rt gathers numbers as this does samples: one function over both would take what reads a chunk, with clauses on
 // what it gives, and be no plainer than three lines twice. The most bytes are asked of each, as no slice type bounds them.
 
@@ -35,7 +43,7 @@ fn samples(pairs: &[u8]) -> ArrayVec<Sample, 4>
 {
     let mut samples = ArrayVec::new();
     for bytes in pairs.chunks_exact(4) {
-        samples.push(Sample::from(pair(bytes)));
+        samples.push(sample(bytes));
     }
     samples
 }

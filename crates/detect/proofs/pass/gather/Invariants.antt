@@ -1,4 +1,4 @@
-use Rattle.detect.proofs.pass.tops.Given as goal
+use Rattle.detect.proofs.pass.gather.Given as goal
 use Rattle.std.proofs.Common.{take}
 use Rattle.detect.specs.Buckets.{Gathered}
 

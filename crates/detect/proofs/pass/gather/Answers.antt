@@ -1,4 +1,4 @@
-use Rattle.detect.proofs.pass.tops.Goals as goal
+use Rattle.detect.proofs.pass.gather.Goals as goal
 use Rattle.std.proofs.Common.{◌≡◌, ℕ, ◌<◌, List, [], length, get_or, subst, sym, refl, ◌∙◌, ap, ℤ, pos, replicate}
 use Rattle.std.specs.List.{AllByRecursion}
 use Rattle.std.proofs.ByRecursion.{All-get_or}
@@ -23,16 +23,16 @@ starts f g {xs} e h = record { long = ap length e; bounded = h; at = λ l k. ap 
 pub loop-point-init : goal.loop-point-init
 unfolding top_of
 loop-point-init c =
-    let t = c.none-tops.result in
-    record { low = starts _ _ c.none-tops.ensures.lows t.lows.filled; high = starts _ _ c.none-tops.ensures.highs t.highs.filled; v_at = c.none-tops.ensures.v; u_at = c.none-tops.ensures.u; v_held = t.v_held; u_held = t.u_held; above = tt }
+    let t = c.args.tops.now in
+    record { low = starts _ _ c.requires.lows t.lows.filled; high = starts _ _ c.requires.highs t.highs.filled; v_at = c.requires.v; u_at = c.requires.u; v_held = t.v_held; u_held = t.u_held; above = tt }
 
 pub submetric-requires : goal.submetric-requires
 submetric-requires c =
-    All-get_or Placed c.as_slice-point-items.result.now c.loop-point.point-index nowhere c.loop-point-test.true
-    (subst (AllByRecursion Placed) (sym c.as_slice-point-items.ensures.value) (placed c.args.symbol.now.chart.now.lawful))
+    All-get_or Placed c.quadrant-point-items.result.now c.loop-point.point-index nowhere c.loop-point-test.true
+    (subst (AllByRecursion Placed) (sym c.quadrant-point-items.ensures) (placed c.args.symbol.now.chart.now.lawful))
 
 pub loop-point-preserved : goal.loop-point-preserved
 loop-point-preserved c =
-    gather_more c.as_slice-point-items.result.now c.loop-point.point-index nowhere c.loop-point-test.true (apart c.args.symbol.now.chart.now.lawful)
+    gather_more c.quadrant-point-items.result.now c.loop-point.point-index nowhere c.loop-point-test.true (apart c.args.symbol.now.chart.now.lawful)
     c.loop-point.invariant c.submetric.ensures c.submetric.result.bounded
     c.offer.ensures.lows c.offer.ensures.highs c.offer.ensures.v c.offer.ensures.u c.offer.new.self.v_held c.offer.new.self.u_held
